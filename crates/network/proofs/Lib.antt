@@ -1,0 +1,12 @@
+pub mod Reading
+pub mod Items
+pub mod Judged
+pub mod Locality
+pub mod Places
+pub mod Written
+pub mod Kept
+pub mod Progress
+pub mod Names
+pub mod Told
+pub mod Columns
+pub mod Sound
