@@ -1,17 +1,15 @@
 -- Columns of numbers that were read from bytes: they have the properties that the judged bytes have.
-use mathlib.Core.Path.{_≡_, refl, ap, ap₂, sym, _∙_}
-use mathlib.Core.Bool.{Bool, true, false}
-use mathlib.Core.Logic.{_⊎_, inl, inr}
+use mathlib.Core.Path.{_≡_, refl, ap, sym, _∙_}
+use mathlib.Core.Bool.{true}
 use mathlib.Core.List.{List, [], _∷_, map}
-use Prim.Native.Nat.{ℕ, zero, suc, _+_, _*_, _<_, _≤_}
+use Prim.Native.Nat.{ℕ, _+_, _*_, _<_}
 use native.Mathlib.Omega.{arith}
 use lib.ListN.{length, getD}
 use Rattle.std.specs.Iters.{counting}
-use Rattle.std.proofs.shelf.Tests.{cases-bool}
 use Rattle.std.proofs.shelf.Counted.{length-map-counting, getD-map-counting}
-use Rattle.network.specs.Network.{Link, paired, linkAt, Within, Apart, InOrder, Fed, Placed, Rising}
+use Rattle.network.specs.Network.{paired, Within, Apart, InOrder, Fed, Placed, Rising}
 use Rattle.network.specs.Format.{nodesIn, linksIn, fromIn, toIn, linkIn, rateIn, receiversIn, receiverIn, netIn, among, previous}
-use Rattle.network.proofs.Items.{Good, none-among, among-at, among-found, each-link, links-within, links-apart, links-in-order, fed-each, each-receiver, above-previous, receivers-rise}
+use Rattle.network.proofs.Items.{Good, among-at, among-found, each-link, links-within, links-apart, links-in-order, fed-each, each-receiver, above-previous, receivers-rise}
 use Rattle.network.proofs.Judged.{Judged}
 
 pub length-column : (f : ℕ → ℕ) (n : ℕ) (xs : List ℕ) → xs ≡ map f (counting 0 n) → length xs ≡ n

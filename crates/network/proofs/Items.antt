@@ -1,16 +1,16 @@
 -- What the tests of links and receivers say: each passes just where the rule in words holds.
 use mathlib.Core.Path.{_≡_, refl, ap, sym, _∙_}
-use mathlib.Core.Bool.{Bool, true, false, cond, _&&_, _||_, not}
-use mathlib.Core.Logic.{_⊎_, inl, inr, ⊎-elim}
+use mathlib.Core.Bool.{Bool, true, false, _&&_, not}
+use mathlib.Core.Logic.{_⊎_, inl, inr}
 use Prim.Native.Nat.{ℕ, zero, suc, _+_, _*_, _<_, _≤_}
 use native.Mathlib.Numerals.{add-one}
 use native.Mathlib.Omega.{arith}
-use lib.Dec.{eqb, ltb, leb}
-use Rattle.std.proofs.shelf.Tests.{eqb-true, eqb-false, eq-eqb, ne-eqb, or-cases, or-parts, or-from, or-left, or-right, both-ways, cases-bool, cases-eq, cases-lt, and-parts, and-from, not-true}
+use lib.Dec.{eqb}
+use Rattle.std.proofs.shelf.Tests.{eqb-true, eq-eqb, or-cases, or-parts, or-from, or-left, or-right, both-ways, cases-bool, cases-eq, cases-lt}
 use Rattle.std.proofs.shelf.Ways.{tells}
-use Rattle.network.specs.Network.{Within, Apart, InOrder, Fed, Placed, Rising}
-use Rattle.network.specs.Reading.{Reading, fine, next, item}
-use Rattle.network.specs.Format.{headFault, among, linkFault, unfed, countFault, receiverFault, links, previous, receivers}
+use Rattle.network.specs.Network.{Within, Apart, InOrder, Placed, Rising}
+use Rattle.network.specs.Reading.{fine, item}
+use Rattle.network.specs.Format.{among, linkFault, unfed, receiverFault, links, previous, receivers}
 use Rattle.network.proofs.Reading.{next-fine, fine-item, item-fine}
 
 -- AMONG THE FIRST k VALUES

@@ -1,16 +1,16 @@
 -- Bytes without a fault: each item is good, and the other way round.
-use mathlib.Core.Path.{_≡_, refl, ap, sym, _∙_}
-use mathlib.Core.Bool.{Bool, true, false, cond, _&&_, _||_, not}
+use mathlib.Core.Path.{_≡_}
+use mathlib.Core.Bool.{Bool, false, cond}
 use mathlib.Core.List.{List}
 use mathlib.Core.Logic.{inl, inr}
-use Prim.Native.Nat.{ℕ, zero, suc, _+_, _*_, _<_, _≤_}
+use Prim.Native.Nat.{ℕ, _+_, _*_, _≤_}
 use native.Mathlib.Omega.{arith}
-use lib.Dec.{eqb, ltb, leb}
+use lib.Dec.{ltb}
 use lib.ListN.{length, getD}
 use Rattle.std.proofs.shelf.Tests.{cases-bool, le-ltb}
 use Rattle.std.proofs.shelf.Ways.{tells}
 use Rattle.network.specs.Network.{Limits, Rates}
-use Rattle.network.specs.Reading.{Reading, fine, next, item}
+use Rattle.network.specs.Reading.{fine}
 use Rattle.network.specs.Format.{nodesIn, linksIn, fromIn, toIn, rateIn, receiversIn, receiverIn, headFault, among, unfed, countFault, links, receivers, faultIn}
 use Rattle.network.proofs.Reading.{next-fine, fine-next, fine-item, item-fine}
 

@@ -1,7 +1,7 @@
 -- What is read is written back byte for byte: each part of the bytes is what is written of the value that was read there,
 -- so the parts, put before the bytes behind them, give the bytes from their beginning on.
 use mathlib.Core.Path.{_≡_, refl, ap, ap₂, sym, _∙_}
-use mathlib.Core.List.{List, [], _∷_, _++_, map, append-assoc, append-nil}
+use mathlib.Core.List.{List, _∷_, _++_, map, append-assoc, append-nil}
 use Prim.Native.Nat.{ℕ, zero, suc, _+_, _*_, _/_, _%_, _<_, _≤_}
 use native.Mathlib.Omega.{arith}
 use lib.ListN.{length, getD, drop}
@@ -9,7 +9,6 @@ use Rattle.std.specs.Iters.{counting}
 use Rattle.std.specs.Joined.{joined}
 use Rattle.std.proofs.shelf.Lists.{drop-more, drop-all}
 use Rattle.std.proofs.shelf.Counted.{length-map-counting}
-use Rattle.network.specs.Network.{Link}
 use Rattle.network.specs.Reading.{wordAt}
 use Rattle.network.specs.Format.{wordBytes, linkBytes, bytesOf, nodesIn, linksIn, fromIn, toIn, linkIn, rateIn, receiversIn, receiverIn, netIn}
 use Rattle.network.proofs.Judged.{Judged}

@@ -1,11 +1,11 @@
 -- Where the parts of a net stand in its bytes: words and links that are written one after the other are found again by their places.
 use mathlib.Core.Path.{_≡_, refl, ap, sym, _∙_}
-use mathlib.Core.List.{List, [], _∷_, _++_, append-assoc}
-use Prim.Native.Nat.{ℕ, zero, suc, _+_, _*_, _/_, _%_, _<_, _≤_}
+use mathlib.Core.List.{List, [], _∷_, _++_}
+use Prim.Native.Nat.{ℕ, zero, suc, _+_, _*_, _/_, _%_, _<_}
 use native.Mathlib.Omega.{arith}
 use lib.ListN.{length, getD}
 use Rattle.std.specs.Joined.{joined}
-use Rattle.std.proofs.shelf.Lists.{getD-append-right, length-append}
+use Rattle.std.proofs.shelf.Lists.{getD-append-right}
 use Rattle.network.specs.Network.{Link, linkAt}
 use Rattle.network.specs.Reading.{wordAt}
 use Rattle.network.specs.Format.{wordBytes, linkBytes}

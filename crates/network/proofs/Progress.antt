@@ -1,7 +1,7 @@
 -- How judging goes on, item by item: what was good so far and one item more; the first fault stays the fault of the whole.
 use mathlib.Core.Path.{_≡_, refl, ap, sym, _∙_}
 use mathlib.Core.Bool.{Bool, true, false, _||_}
-use mathlib.Core.Logic.{_⊎_, inl, inr, _≢_}
+use mathlib.Core.Logic.{inl, inr}
 use mathlib.Core.List.{List}
 use Prim.Native.Nat.{ℕ, zero, suc, _+_, _*_, _<_, _≤_}
 use native.Mathlib.Numerals.{add-one}
@@ -11,7 +11,7 @@ use lib.ListN.{length, getD, set, replicate}
 use Rattle.std.proofs.shelf.Lists.{getD-replicate, getD-set-same, getD-set-other, length-set}
 use Rattle.std.proofs.shelf.Tests.{cases-eq, cases-lt, eq-eqb, ne-eqb, or-right}
 use Rattle.std.proofs.shelf.Ways.{tells}
-use Rattle.network.specs.Reading.{Reading, fault, fine, next, item}
+use Rattle.network.specs.Reading.{fault, fine, item}
 use Rattle.network.specs.Format.{among, linkFault, receiverFault, unfed, links, previous, receivers}
 use Rattle.network.proofs.Reading.{item-fine}
 use Rattle.network.proofs.Items.{each-link, each-receiver, same-unfed}

@@ -1,13 +1,11 @@
 -- Items: when one is good, and when all of a sequence are.
-use mathlib.Core.Path.{_≡_, refl, ap, sym, _∙_}
-use mathlib.Core.Bool.{Bool, true, false, cond}
-use mathlib.Core.List.{List}
-use Prim.Native.Nat.{ℕ, _+_, _*_, _<_, _≤_}
+use mathlib.Core.Path.{_≡_, refl}
+use mathlib.Core.Bool.{true, false, cond}
+use Prim.Native.Nat.{ℕ, _<_, _≤_}
 use native.Mathlib.Omega.{arith}
 use lib.Dec.{eqb, ltb}
-use lib.ListN.{getD}
-use Rattle.std.proofs.shelf.Tests.{ltb-true, ltb-false, eqb-true, eqb-false, le-ltb, lt-ltb, eq-eqb, ne-eqb}
-use Rattle.network.specs.Reading.{Reading, got, fault, fine, next, item, wordAt}
+use Rattle.std.proofs.shelf.Tests.{ltb-false, eqb-true, le-ltb, lt-ltb, eq-eqb, ne-eqb}
+use Rattle.network.specs.Reading.{Reading, got, fault, fine, next, item}
 
 -- a fault is no value
 pub not-fine : {number at : ℕ} → fault number at ≡ fine → ⊥

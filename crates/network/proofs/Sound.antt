@@ -1,16 +1,16 @@
 -- Every value of the program is an accepted net: its invariants, which speak of columns, say so of the links.
-use mathlib.Core.Path.{_≡_, refl, ap, sym, _∙_}
-use mathlib.Core.Bool.{true, false}
-use mathlib.Core.Logic.{_⊎_, inl, inr}
+use mathlib.Core.Path.{_≡_, refl, ap, sym}
+use mathlib.Core.Logic.{inl, inr}
 use mathlib.Core.List.{List, [], _∷_}
-use Prim.Native.Nat.{ℕ, zero, suc, _+_, _<_, _≤_}
+use Prim.Native.Nat.{ℕ, zero, suc, _<_}
 use native.Mathlib.Omega.{arith}
 use lib.ListN.{length, getD}
 use Rattle.std.specs.Of.Vec.{vec-len, vec-items}
 use Rattle.std.proofs.shelf.Tests.{cases-bool}
-use Rattle.network.specs.Network.{Link, paired, linkAt, Within, Apart, InOrder, Fed, Accepted}
+use Rattle.network.specs.Network.{paired, linkAt, Fed, Sound, Accepted}
 use Rattle.network.specs.Format.{among}
-use Rattle.network.specs.Values.{value}
+use Rattle.network.specs.Values.{graph, value}
+use Rattle.network.specs.declared.net.Network.{Network as Columns}
 use Rattle.network.specs.declared.net.Multicast.{Multicast as Net}
 use Rattle.network.proofs.Items.{among-found, none-among}
 use Rattle.network.proofs.Columns.{within-like, apart-like, order-like, fed-like}
@@ -36,26 +36,49 @@ found n from to fed k h z =
       | inr e ↦ absurd (fed k h z (λ j l q. none-among to n (from k) j e l (sym q)))
     ]
 
+-- the links of a network, by its columns
+module _ (z : Columns) where
+  abbrev fs : List ℕ
+  fs = vec-items (z .from)
+
+  abbrev ts : List ℕ
+  ts = vec-items (z .to)
+
+  pub level : length ts ≡ length fs
+  level = omega (arith, z .from .ok .0, z .to .ok .0, z .level)
+
+  pub links-long : vec-len (z .from) ≡ length (graph z .links)
+  links-long = omega (arith, z .from .ok .0, length-paired fs ts level)
+
+  pub from-is : (k : ℕ) → k < vec-len (z .from) → linkAt (graph z .links) k .from ≡ getD fs k 0
+  from-is k h = paired-at fs ts k level (omega (arith, z .from .ok .0)) .0
+
+  pub to-is : (k : ℕ) → k < vec-len (z .from) → linkAt (graph z .links) k .to ≡ getD ts k 0
+  to-is k h = paired-at fs ts k level (omega (arith, z .from .ok .0)) .1
+
+  pub sound : Sound (graph z)
+  sound =
+      record {
+        some = z .limits .0;
+        within = rw (sym links-long) (within-like (vec-len (z .from)) (λ k. getD fs k 0) (λ k. getD ts k 0) _ _ from-is to-is (z .nodes) (z .within));
+        apart = rw (sym links-long) (apart-like (vec-len (z .from)) (λ k. getD fs k 0) (λ k. getD ts k 0) _ _ from-is to-is (z .apart));
+        order = rw (sym links-long) (order-like (vec-len (z .from)) (λ k. getD fs k 0) (λ k. getD ts k 0) _ _ from-is to-is (z .order));
+      }
+
+  fed-links : (k : ℕ) → k < length (graph z .links) → (linkAt (graph z .links) k .from ≡ 0 → ⊥)
+      → (j : ℕ) × (j < length (graph z .links)) × (linkAt (graph z .links) j .to ≡ linkAt (graph z .links) k .from)
+  fed-links =
+      rw (sym links-long)
+      (found (vec-len (z .from)) (λ k. linkAt (graph z .links) k .from) (λ k. linkAt (graph z .links) k .to)
+      (fed-like (vec-len (z .from)) (λ k. getD fs k 0) (λ k. getD ts k 0) _ _ from-is to-is (z .fed)))
+
 pub accepted : (m : Net) → Accepted (value m)
 accepted m =
-    let z = m .network in
-    let fs : List ℕ = vec-items (z .from) in
-    let ts : List ℕ = vec-items (z .to) in
-    let ls : List Link = paired fs ts in
-    let level : length ts ≡ length fs = omega (arith, z .from .ok .0, z .to .ok .0, z .level) in
-    let n : vec-len (z .from) ≡ length ls = omega (arith, z .from .ok .0, length-paired fs ts level) in
     let r : vec-len (m .receivers) ≡ length (vec-items (m .receivers)) = omega (arith, m .receivers .ok .0) in
-    let from-is : (k : ℕ) → k < vec-len (z .from) → linkAt ls k .from ≡ getD fs k 0 = λ k h. paired-at fs ts k level (omega (arith, z .from .ok .0)) .0 in
-    let to-is : (k : ℕ) → k < vec-len (z .from) → linkAt ls k .to ≡ getD ts k 0 = λ k h. paired-at fs ts k level (omega (arith, z .from .ok .0)) .1 in
     record {
-      limits = rw (sym n) (z .limits);
-      within = rw (sym n) (within-like (vec-len (z .from)) (λ k. getD fs k 0) (λ k. getD ts k 0) _ _ from-is to-is (z .nodes) (z .within));
-      apart = rw (sym n) (apart-like (vec-len (z .from)) (λ k. getD fs k 0) (λ k. getD ts k 0) _ _ from-is to-is (z .apart));
-      order = rw (sym n) (order-like (vec-len (z .from)) (λ k. getD fs k 0) (λ k. getD ts k 0) _ _ from-is to-is (z .order));
-      fed =
-          rw (sym n)
-          (found (vec-len (z .from)) (λ k. linkAt ls k .from) (λ k. linkAt ls k .to)
-          (fed-like (vec-len (z .from)) (λ k. getD fs k 0) (λ k. getD ts k 0) _ _ from-is to-is (z .fed)));
+      limits = rw (sym (links-long (m .network))) (m .network .limits);
+      sound = sound (m .network);
+      fed = fed-links (m .network);
       rates = rw (sym r) (m .rates);
       placed = rw (sym r) (m .placed);
       rising = rw (sym r) (m .rising);

@@ -1,18 +1,17 @@
 -- What is written is read back as the same net.
 use mathlib.Core.Path.{_≡_, refl, ap, sym, _∙_}
 use mathlib.Core.List.{List, [], _∷_, _++_, map, append-assoc, append-nil}
-use Prim.Native.Nat.{ℕ, zero, suc, _+_, _*_, _/_, _%_, _<_, _≤_}
+use Prim.Native.Nat.{ℕ, _+_, _*_, _<_}
 use native.Mathlib.Omega.{arith}
 use lib.ListN.{length, getD}
 use Rattle.std.specs.Iters.{counting}
 use Rattle.std.specs.Joined.{joined}
 use Rattle.std.proofs.shelf.Lists.{length-append}
 use Rattle.std.proofs.shelf.Counted.{fill-by-all}
-use Rattle.network.specs.Network.{Link, Network, Multicast, linkAt, Accepted, Within, Apart, InOrder}
-use Rattle.network.specs.Reading.{Reading, got, fine, wordAt}
+use Rattle.network.specs.Network.{Link, Multicast, linkAt, Accepted, Within, Apart, InOrder}
+use Rattle.network.specs.Reading.{got, wordAt}
 use mathlib.Core.Bool.{true}
-use Rattle.network.specs.Format.{among, previous, wordBytes, linkBytes, headBytes, bytesOf, nodesIn, linksIn, fromIn, toIn, linkIn, rateIn, receiversIn, receiverIn, netIn, links, receivers, unfed, faultIn, readNet}
-use Rattle.network.proofs.Reading.{not-fine}
+use Rattle.network.specs.Format.{among, previous, wordBytes, linkBytes, headBytes, bytesOf, nodesIn, linksIn, fromIn, toIn, linkIn, rateIn, receiversIn, receiverIn, netIn, links, receivers, readNet}
 use Rattle.network.proofs.Items.{among-found, among-at, good-links, all-links, each-fed, all-receivers, rise-above-previous}
 use Rattle.network.proofs.Judged.{Judged, judge}
 use Rattle.network.proofs.Places.{byte-behind, word-behind, word-back, length-words, length-links, words-at, froms-at, tos-at}
@@ -95,13 +94,13 @@ module _ (m : Multicast) (ok : Accepted m) where
   n = length (m .network .links)
 
   within-bytes : Within (m .network .nodes) n (fromIn bs) (toIn bs)
-  within-bytes k h = rw (from-at m k h, to-at m k h) (ok .within k h)
+  within-bytes k h = rw (from-at m k h, to-at m k h) (ok .sound .within k h)
 
   apart-bytes : Apart n (fromIn bs) (toIn bs)
-  apart-bytes k h = rw (from-at m k h, to-at m k h) (ok .apart k h)
+  apart-bytes k h = rw (from-at m k h, to-at m k h) (ok .sound .apart k h)
 
   order-bytes : InOrder n (fromIn bs) (toIn bs)
-  order-bytes j k h e = ok .order j k h (sym (to-at m j (h .0)) ∙ e ∙ from-at m k (h .1))
+  order-bytes j k h e = ok .sound .order j k h (sym (to-at m j (h .0)) ∙ e ∙ from-at m k (h .1))
 
   fed-bytes : (p : ℕ) → p < m .network .nodes → (p ≡ 0 → ⊥) → among (fromIn bs) n p ≡ true → among (toIn bs) n p ≡ true
   fed-bytes p h z l =

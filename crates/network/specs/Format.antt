@@ -8,12 +8,12 @@
 use mathlib.Core.Path.{_≡_}
 use mathlib.Core.Bool.{Bool, false, cond, _&&_, _||_, not}
 use mathlib.Core.List.{List, [], _∷_, _++_, map}
-use Prim.Native.Nat.{ℕ, zero, suc, _+_, _*_, _/_, _%_, _<_, _≤_}
+use Prim.Native.Nat.{ℕ, zero, suc, _+_, _*_, _/_, _%_, _≤_}
 use lib.Dec.{eqb, ltb, leb}
 use lib.ListN.{length, getD, take}
 use Rattle.std.specs.Iters.{counting}
 use Rattle.std.specs.Joined.{joined}
-use Rattle.network.specs.Network.{Link, Network, Multicast}
+use Rattle.network.specs.Network.{Link, Multicast}
 use Rattle.network.specs.Reading.{Reading, got, fault, fine, next, item, wordAt}
 
 -- WRITING

@@ -1,7 +1,7 @@
 -- Networks, and what is to be sent over them. Defines, in this order:
 --   Link, Network, Multicast   nodes and links; with them a rate and the receivers
 --   Limits to Rising           what holds of every accepted net, one by one
---   Accepted                   all of it together
+--   Sound, Accepted            all of it together
 -- Assumes nothing.
 use mathlib.Core.Path.{_≡_}
 use mathlib.Core.List.{List, [], _∷_}
@@ -65,11 +65,16 @@ Placed nodes n place = (i : ℕ) → i < n → (0 < place i) × (place i < nodes
 abbrev pub Rising : (n : ℕ) (place : ℕ → ℕ) → Type 0
 Rising n place = (i j : ℕ) → i < j → j < n → place i < place j
 
+-- what the search for paths, the coefficients and the rounds rest on
+pub record Sound (z : Network) : Type 0 where
+  pub some : 1 ≤ z .nodes
+  pub within : Within (z .nodes) (length (z .links)) (λ k. linkAt (z .links) k .from) (λ k. linkAt (z .links) k .to)
+  pub apart : Apart (length (z .links)) (λ k. linkAt (z .links) k .from) (λ k. linkAt (z .links) k .to)
+  pub order : InOrder (length (z .links)) (λ k. linkAt (z .links) k .from) (λ k. linkAt (z .links) k .to)
+
 pub record Accepted (m : Multicast) : Type 0 where
   pub limits : Limits (m .network .nodes) (length (m .network .links))
-  pub within : Within (m .network .nodes) (length (m .network .links)) (λ k. linkAt (m .network .links) k .from) (λ k. linkAt (m .network .links) k .to)
-  pub apart : Apart (length (m .network .links)) (λ k. linkAt (m .network .links) k .from) (λ k. linkAt (m .network .links) k .to)
-  pub order : InOrder (length (m .network .links)) (λ k. linkAt (m .network .links) k .from) (λ k. linkAt (m .network .links) k .to)
+  pub sound : Sound (m .network)
   -- a link that comes into the beginning of each link that does not leave the source
   pub fed : (k : ℕ) → k < length (m .network .links) → (linkAt (m .network .links) k .from ≡ 0 → ⊥)
       → (j : ℕ) × (j < length (m .network .links)) × (linkAt (m .network .links) j .to ≡ linkAt (m .network .links) k .from)

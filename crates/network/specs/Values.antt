@@ -1,5 +1,5 @@
 -- What the program's values stand for. Defines, in this order:
---   value      the net that a value of the program is
+--   graph, value   the network, and the net, that a value of the program is
 --   Answers    what the answer of `read` says of the bytes
 --   Settled    that a fault it tells does not depend on what lies behind
 --   Refuses, Tells   what a part of the reader tells of its items
@@ -13,22 +13,21 @@ use Rattle.std.specs.declared.option.Option.{Option}
 use Rattle.std.specs.declared.option.Option.the-variants.{None, Some}
 use Rattle.std.specs.declared.result.Result.{Result}
 use Rattle.std.specs.declared.result.Result.the-variants.{Ok, Err}
-use Rattle.network.specs.Network.{Multicast, paired}
+use Rattle.network.specs.Network.{Network, Multicast, paired}
 use Rattle.network.specs.Reading.{Reading, got, fault, fine}
 use Rattle.network.specs.Format.{readNet, Local}
 use Rattle.network.specs.Faults.{number}
+use Rattle.network.specs.declared.net.Network.{Network as Columns}
 use Rattle.network.specs.declared.net.Multicast.{Multicast as Net}
 use Rattle.network.specs.declared.fault.Fault.{Fault}
 use Rattle.network.specs.declared.fault.ReadError.{ReadError}
 use Rattle.network.specs.declared.fault.ReadError.the-variants.{Faulty, Memory}
 
+abbrev pub graph : Columns → Network
+graph z = record { nodes = z .nodes; links = paired (vec-items (z .from)) (vec-items (z .to)) }
+
 abbrev pub value : Net → Multicast
-value m =
-    record {
-      network = record { nodes = m .network .nodes; links = paired (vec-items (m .network .from)) (vec-items (m .network .to)) };
-      rate = m .rate;
-      receivers = vec-items (m .receivers);
-    }
+value m = record { network = graph (m .network); rate = m .rate; receivers = vec-items (m .receivers) }
 
 -- memory is wanted only where the bytes are a net: no fault goes untold for it
 abbrev pub Answers : List ℕ → Result Net ReadError → Type 0

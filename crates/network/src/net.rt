@@ -1,6 +1,6 @@
 // Networks. What holds of every accepted one is an invariant of the type: whoever makes a value proves it, so the fields are open to all.
 ghost use mathlib.Core.Path.{_≡_};
-ghost use Prim.Native.Nat.{ℕ, _<_, _≤_};
+ghost use Prim.Native.Nat.{_<_};
 ghost use lib.ListN.{getD};
 ghost use Rattle.std.specs.Of.Vec.{vec-len, vec-items};
 ghost use Rattle.network.specs.Network.{Limits, Within, Apart, InOrder, Fed, Rates, Placed, Rising};

@@ -10,7 +10,7 @@ ghost use Rattle.std.specs.Options.{Cases as BySome};
 ghost use Rattle.std.specs.Vec.{made, refused};
 ghost use Rattle.network.specs.Network.{Accepted, Limits, Rates};
 ghost use Rattle.network.specs.Reading.{wordAt, fine, next};
-ghost use Rattle.network.specs.Format.{bytesOf, nodesIn, linksIn, fromIn, toIn, rateIn, receiversIn, linkFault, receiverFault, unfed, among, headItem, linkItems, linksEnd, countsItem, receiverItems, endItem, faultIn, netIn};
+ghost use Rattle.network.specs.Format.{bytesOf, nodesIn, linksIn, rateIn, receiversIn, linkFault, receiverFault, unfed, headItem, linkItems, linksEnd, countsItem, receiverItems, endItem, faultIn, netIn};
 ghost use Rattle.network.specs.Values.{value, Answers, Settled, Tells, Names};
 use crate::fault::Fault;
 use crate::fault::ReadError;

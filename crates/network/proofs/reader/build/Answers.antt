@@ -1,13 +1,12 @@
-use mathlib.Core.Path.{_≡_, refl, ap, sym, _∙_}
+use mathlib.Core.Path.{_≡_, ap, _∙_}
 use mathlib.Core.List.{List, map}
-use Prim.Native.Nat.{ℕ, _+_, _*_, _<_, _≤_}
+use Prim.Native.Nat.{ℕ, _<_}
 use native.Mathlib.Omega.{arith}
-use lib.ListN.{length, getD}
+use lib.ListN.{getD}
 use Rattle.std.specs.Iters.{counting}
 use Rattle.std.specs.Of.Vec.{vec-len, vec-items}
-use Rattle.network.specs.Reading.{wordAt}
-use Rattle.network.specs.Format.{nodesIn, linksIn, fromIn, toIn, rateIn, receiversIn, receiverIn, netIn}
-use Rattle.network.proofs.Judged.{Judged, judged}
+use Rattle.network.specs.Format.{nodesIn, linksIn, fromIn, toIn, rateIn, receiversIn, receiverIn}
+use Rattle.network.proofs.Judged.{judged}
 use Rattle.network.proofs.Columns.{length-column, column-at, within-like, apart-like, order-like, fed-like, placed-like, rising-like, within-in, apart-in, order-in, fed-in, placed-in, rising-in, net-of}
 use Rattle.network.proofs.reader.build.Needs as need
 

@@ -5,9 +5,9 @@ use Prim.Native.Nat.{ℕ, _+_, _*_, _<_, _≤_}
 use native.Mathlib.Numerals.{add-one}
 use native.Mathlib.Omega.{arith}
 use lib.Dec.{ltb}
-use lib.ListN.{length, getD}
+use lib.ListN.{length}
 use Rattle.std.proofs.shelf.Tests.{lt-ltb, le-ltb}
-use Rattle.network.specs.Reading.{Reading, fault, fine, next, item, wordAt}
+use Rattle.network.specs.Reading.{fault, fine, next, item, wordAt}
 use Rattle.network.specs.Format.{nodesIn, linksIn, receiversIn, receiverIn, receiverFault, previous, receivers, receiverItems, endItem}
 use Rattle.network.specs.Faults.{number}
 use Rattle.network.proofs.Reading.{item-short, item-fine, item-told}

@@ -8,7 +8,7 @@ use Rattle.std.specs.Of.Vec.{vec-len, vec-items}
 use Rattle.network.specs.Network.{paired}
 use Rattle.network.specs.Format.{wordBytes, linkBytes, headBytes, bytesOf, readNet}
 use Rattle.network.specs.Values.{value}
-use Rattle.network.proofs.Sound.{length-paired, accepted}
+use Rattle.network.proofs.Sound.{links-long, accepted}
 use Rattle.network.proofs.Written.{read-back}
 use Rattle.network.proofs.writer.write.Needs as need
 
@@ -22,9 +22,7 @@ pub returns : need.returns
 returns c =
     let m = c .args .net .now in
     let z = m .network in
-    let level : length (vec-items (z .to)) ≡ length (vec-items (z .from)) = omega (arith, z .from .ok .0, z .to .ok .0, z .level) in
-    let n-is : vec-len (z .from) ≡ length (paired (vec-items (z .from)) (vec-items (z .to))) =
-    omega (arith, z .from .ok .0, length-paired (vec-items (z .from)) (vec-items (z .to)) level) in
+    let n-is = links-long z in
     let r-is : vec-len (m .receivers) ≡ length (vec-items (m .receivers)) = omega (arith, m .receivers .ok .0) in
     let bytes : vec-items (c .put-words .last .out) ≡ bytesOf (value m) =
     joined-parts _ _ _ _ (vec-items (c .put-links .last .out)) _ (vec-items (c .push-3 .last .self)) _ (joined linkBytes (paired (vec-items (z .from)) (vec-items (z .to))))
