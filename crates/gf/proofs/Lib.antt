@@ -1,0 +1,11 @@
+pub mod Xor
+pub mod Tests
+pub mod Horner
+pub mod Ring
+pub mod Product
+pub mod Division
+pub mod Trial
+pub mod Polynomials
+pub mod Modulo
+pub mod Inverse
+pub mod Fields

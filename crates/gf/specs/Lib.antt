@@ -1,0 +1,4 @@
+pub mod Polynomial
+pub mod Laws
+pub mod Field
+pub mod Sum
