@@ -1,0 +1,10 @@
+pub mod Sums
+pub mod Lists
+pub mod Lowest
+pub mod Dual
+pub mod Independence
+pub mod Exchange
+pub mod Transport
+pub mod Reading
+pub mod Pigeonhole
+pub mod Choice
