@@ -1,0 +1,4 @@
+pub mod Pigeonhole
+pub mod Numbering
+pub mod Crossing
+pub mod Across
