@@ -9,9 +9,9 @@ use lib.Dec.{eqb}
 use Rattle.std.proofs.shelf.Tests.{eqb-true, eq-eqb, or-cases, or-parts, or-from, or-left, or-right, both-ways, cases-bool, cases-eq, cases-lt}
 use Rattle.std.proofs.shelf.Ways.{tells}
 use Rattle.network.specs.Network.{Within, Apart, InOrder, Placed, Rising}
-use Rattle.network.specs.Reading.{fine, item}
+use Rattle.bytes.specs.Reading.{fine, item}
 use Rattle.network.specs.Format.{among, linkFault, unfed, receiverFault, links, previous, receivers}
-use Rattle.network.proofs.Reading.{next-fine, fine-item, item-fine}
+use Rattle.bytes.proofs.Reading.{next-fine, fine-item, item-fine}
 
 -- AMONG THE FIRST k VALUES
 

@@ -10,9 +10,9 @@ use lib.ListN.{length, getD}
 use Rattle.std.proofs.shelf.Tests.{cases-bool, le-ltb}
 use Rattle.std.proofs.shelf.Ways.{tells}
 use Rattle.network.specs.Network.{Limits, Rates}
-use Rattle.network.specs.Reading.{fine}
+use Rattle.bytes.specs.Reading.{fine}
 use Rattle.network.specs.Format.{nodesIn, linksIn, fromIn, toIn, rateIn, receiversIn, receiverIn, headFault, among, unfed, countFault, links, receivers, faultIn}
-use Rattle.network.proofs.Reading.{next-fine, fine-next, fine-item, item-fine}
+use Rattle.bytes.proofs.Reading.{next-fine, fine-next, fine-item, item-fine}
 
 pub record Judged (bs : List ℕ) : Type 0 where
   pub kind : getD bs 0 0 ≡ 1

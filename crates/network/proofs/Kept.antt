@@ -2,29 +2,19 @@
 -- so the parts, put before the bytes behind them, give the bytes from their beginning on.
 use mathlib.Core.Path.{_≡_, refl, ap, ap₂, sym, _∙_}
 use mathlib.Core.List.{List, _∷_, _++_, map, append-assoc, append-nil}
-use Prim.Native.Nat.{ℕ, zero, suc, _+_, _*_, _/_, _%_, _<_, _≤_}
+use Prim.Native.Nat.{ℕ, zero, suc, _+_, _*_, _<_, _≤_}
 use native.Mathlib.Omega.{arith}
 use lib.ListN.{length, getD, drop}
 use Rattle.std.specs.Iters.{counting}
 use Rattle.std.specs.Joined.{joined}
 use Rattle.std.proofs.shelf.Lists.{drop-more, drop-all}
 use Rattle.std.proofs.shelf.Counted.{length-map-counting}
-use Rattle.network.specs.Reading.{wordAt}
-use Rattle.network.specs.Format.{wordBytes, linkBytes, bytesOf, nodesIn, linksIn, fromIn, toIn, linkIn, rateIn, receiversIn, receiverIn, netIn}
+use Rattle.bytes.specs.Words.{wordBytes}
+use Rattle.bytes.proofs.Words.{word-kept, words-kept}
+use Rattle.network.specs.Format.{linkBytes, bytesOf, nodesIn, linksIn, fromIn, toIn, linkIn, rateIn, receiversIn, receiverIn, netIn}
 use Rattle.network.proofs.Judged.{Judged}
 
 module _ (bs : List ℕ) (small : (i : ℕ) → getD bs i 0 < 256) where
-  word-kept : (i j : ℕ) → i + 2 ≡ j → j ≤ length bs → wordBytes (wordAt bs i) ++ drop j bs ≡ drop i bs
-  unfolding wordAt
-  word-kept i j e h =
-      let low = small (i + 1) in
-      let first : drop i bs ≡ getD bs i 0 ∷ drop (i + 1) bs = drop-more bs i 0 (omega arith) in
-      let second : drop (i + 1) bs ≡ getD bs (i + 1) 0 ∷ drop (i + 1 + 1) bs = drop-more bs (i + 1) 0 (omega arith) in
-      let end : i + 1 + 1 ≡ j = omega arith in
-      let high : (256 * getD bs i 0 + getD bs (i + 1) 0) / 256 ≡ getD bs i 0 = omega arith in
-      let rest : (256 * getD bs i 0 + getD bs (i + 1) 0) % 256 ≡ getD bs (i + 1) 0 = omega arith in
-      ap₂ (λ x y. x ∷ y ∷ drop j bs) high rest ∙ sym (first ∙ ap (λ l. getD bs i 0 ∷ l) (second ∙ ap (λ k. getD bs (i + 1) 0 ∷ drop k bs) end))
-
   links-kept : (k n i j : ℕ) → 5 + 4 * k ≡ i → i + 4 * n ≡ j → j ≤ length bs
       → joined linkBytes (map (linkIn bs) (counting k n)) ++ drop j bs ≡ drop i bs
   links-kept k zero i j e f h = ap (λ x. drop x bs) (omega arith)
@@ -32,17 +22,8 @@ module _ (bs : List ℕ) (small : (i : ℕ) → getD bs i 0 < 256) where
       append-assoc (linkBytes (linkIn bs k)) _ (drop j bs)
       ∙ ap (λ l. linkBytes (linkIn bs k) ++ l) (links-kept (k + 1) n (i + 4) j (omega arith) (omega arith) h)
       ∙ append-assoc (wordBytes (fromIn bs k)) (wordBytes (toIn bs k)) (drop (i + 4) bs)
-      ∙ ap (λ l. wordBytes (fromIn bs k) ++ l) (word-kept (7 + 4 * k) (i + 4) (omega arith) (omega arith))
-      ∙ word-kept (5 + 4 * k) (7 + 4 * k) (omega arith) (omega arith)
-      ∙ ap (λ x. drop x bs) e
-
-  words-kept : (m k n i j : ℕ) → 7 + 4 * m + 2 * k ≡ i → i + 2 * n ≡ j → j ≤ length bs
-      → joined wordBytes (map (receiverIn bs m) (counting k n)) ++ drop j bs ≡ drop i bs
-  words-kept m k zero i j e f h = ap (λ x. drop x bs) (omega arith)
-  words-kept m k (suc n) i j e f h =
-      append-assoc (wordBytes (receiverIn bs m k)) _ (drop j bs)
-      ∙ ap (λ l. wordBytes (receiverIn bs m k) ++ l) (words-kept m (k + 1) n (i + 2) j (omega arith) (omega arith) h)
-      ∙ word-kept (7 + 4 * m + 2 * k) (i + 2) (omega arith) (omega arith)
+      ∙ ap (λ l. wordBytes (fromIn bs k) ++ l) (word-kept bs small (7 + 4 * k) (i + 4) (omega arith) (omega arith))
+      ∙ word-kept bs small (5 + 4 * k) (7 + 4 * k) (omega arith) (omega arith)
       ∙ ap (λ x. drop x bs) e
 
   -- the receivers with the two counts before them
@@ -51,7 +32,7 @@ module _ (bs : List ℕ) (small : (i : ℕ) → getD bs i 0 < 256) where
   behind-links-kept n r whole is =
       let words : joined wordBytes (map (receiverIn bs n) (counting 0 r)) ≡ drop (7 + 4 * n) bs =
       sym (append-nil _) ∙ ap (λ l. joined wordBytes (map (receiverIn bs n) (counting 0 r)) ++ l) (sym (drop-all (length bs) bs (omega arith)))
-      ∙ words-kept n 0 r (7 + 4 * n) (length bs) (omega arith) (omega arith) (omega arith) in
+      ∙ words-kept bs small (7 + 4 * n) 0 r (7 + 4 * n) (length bs) (omega arith) (omega arith) (omega arith) in
       let count : r ∷ drop (7 + 4 * n) bs ≡ drop (6 + 4 * n) bs =
       ap₂ (λ x k. x ∷ drop k bs) is (omega arith) ∙ sym (drop-more bs (6 + 4 * n) 0 (omega arith)) in
       let rate : rateIn bs n ∷ drop (6 + 4 * n) bs ≡ drop (5 + 4 * n) bs =
@@ -60,8 +41,8 @@ module _ (bs : List ℕ) (small : (i : ℕ) → getD bs i 0 < 256) where
 
   head-kept : getD bs 0 0 ≡ 1 → 5 ≤ length bs → 1 ∷ (wordBytes (nodesIn bs) ++ (wordBytes (linksIn bs) ++ drop 5 bs)) ≡ bs
   head-kept kind h =
-      ap (λ l. 1 ∷ (wordBytes (nodesIn bs) ++ l)) (word-kept 3 5 refl h)
-      ∙ ap (λ l. 1 ∷ l) (word-kept 1 3 refl (omega arith))
+      ap (λ l. 1 ∷ (wordBytes (nodesIn bs) ++ l)) (word-kept bs small 3 5 refl h)
+      ∙ ap (λ l. 1 ∷ l) (word-kept bs small 1 3 refl (omega arith))
       ∙ ap (λ x. x ∷ drop 1 bs) (sym kind) ∙ sym (drop-more bs 0 0 (omega arith))
 
   pub bytes-kept : Judged bs → bytesOf (netIn bs) ≡ bs

@@ -1,4 +1,3 @@
-pub mod Reading
 pub mod Items
 pub mod Judged
 pub mod Locality

@@ -11,32 +11,14 @@ use lib.ListN.{length, getD, take}
 use Rattle.std.proofs.shelf.Lists.{getD-take, length-take, take-take}
 use Rattle.std.proofs.shelf.Tests.{cases-lt, lt-ltb, le-ltb}
 use Rattle.std.proofs.shelf.Ways.{tells}
-use Rattle.network.specs.Reading.{Reading, got, fault, fine, next, item, wordAt}
+use Rattle.bytes.specs.Reading.{Reading, got, fault, fine, next, item}
+use Rattle.bytes.specs.Words.{wordAt}
 use Rattle.network.specs.Format.{nodesIn, linksIn, fromIn, toIn, rateIn, receiversIn, receiverIn, headFault, among, linkFault, unfed, countFault, receiverFault, links, previous, receivers, headItem, linkItems, linksEnd, countsItem, receiverItems, endItem, faultIn, netIn, readNet, Local}
-use Rattle.network.proofs.Reading.{not-fine}
+use Rattle.bytes.proofs.Reading.{not-fine}
+use Rattle.bytes.proofs.Locality.{Agree, agree-at, agree-word, agree-long, same-item, Spot, spot-item, spot-next, spot-like, endAt, same-end}
 use Rattle.network.proofs.Items.{same-unfed}
 
-abbrev Agree : ℕ → List ℕ → List ℕ → Type 0
-Agree e cs bs = take e cs ≡ take e bs
-
-agree-at : (e : ℕ) (cs bs : List ℕ) → Agree e cs bs → (i : ℕ) → i < e → getD cs i 0 ≡ getD bs i 0
-agree-at e cs bs a i h = sym (getD-take e cs i 0 h) ∙ ap (λ l. getD l i 0) a ∙ getD-take e bs i 0 h
-
-agree-word : (e : ℕ) (cs bs : List ℕ) → Agree e cs bs → (i : ℕ) → i + 2 ≤ e → wordAt cs i ≡ wordAt bs i
-unfolding wordAt
-agree-word e cs bs a i h = rw (agree-at e cs bs a i (omega arith), agree-at e cs bs a (i + 1) (omega arith))
-
-agree-long : (e : ℕ) (cs bs : List ℕ) → Agree e cs bs → (x : ℕ) → x ≤ e → ltb (length cs) x ≡ ltb (length bs) x
-agree-long e cs bs a x h =
-    let m : min e (length cs) ≡ min e (length bs) = sym (length-take e cs) ∙ ap length a ∙ length-take e bs in
-    elim (cases-lt (length cs) x)
-    [ inl l ↦ lt-ltb (length cs) x l ∙ sym (lt-ltb (length bs) x (omega arith)) | inr l ↦ le-ltb (length cs) x l ∙ sym (le-ltb (length bs) x (omega arith)) ]
-
 -- WHAT IS JUDGED ALIKE
-
-same-item : (len len′ at end number number′ : ℕ) → ltb len end ≡ ltb len′ end → number ≡ number′ → item len at end number ≡ item len′ at end number′
-unfolding item
-same-item len len′ at end number number′ l e = rw (l, e)
 
 same-among : (f g : ℕ → ℕ) (k p : ℕ) → ((j : ℕ) → j < k → f j ≡ g j) → among f k p ≡ among g k p
 unfolding among
@@ -77,82 +59,31 @@ module _ (e : ℕ) (cs bs : List ℕ) (a : Agree e cs bs) where
   same-receivers nodes m zero h = refl
   same-receivers nodes m (suc i) h = rw (same-receivers nodes m i (omega arith), same-receiver nodes m i (omega arith))
 
-agree-less : (d e : ℕ) (cs bs : List ℕ) → d ≤ e → Agree e cs bs → Agree d cs bs
-agree-less d e cs bs h a = sym (take-take d e cs h) ∙ ap (take d) a ∙ take-take d e bs h
-
--- THE ITEM WITH THE FAULT
-
--- S has a fault at byte b; from `least` on it is settled where that item ends
-record Spot (S : List ℕ → Reading (Unit {0})) (bs : List ℕ) (least number b : ℕ) : Type 0 where
-  end : ℕ
-  after : b ≤ end
-  near : end ≤ b + 5
-  past : least ≤ end
-  same : (cs : List ℕ) → Agree end cs bs → S cs ≡ fault number b
-
-fault-at : (len at end number told b : ℕ) → item len at end number ≡ fault told b → at ≡ b
-unfolding item
-fault-at len at end number told b e =
-    elim (ltb len end) as (λ v. cond v (fault 1 at) (cond (eqb number 0) fine (fault number at)) ≡ fault told b → at ≡ b) [
-      | true ↦ λ h. cc
-      | false ↦ elim (eqb number 0) as (λ w. cond w fine (fault number at) ≡ fault told b → at ≡ b) [ true ↦ λ h. absurd (not-fine (sym h)) | false ↦ λ h. cc ]
-    ] e
-
-spot-item : (S : List ℕ → Reading (Unit {0})) (bs : List ℕ) (at end stop number told b least : ℕ)
-    → S bs ≡ item (length bs) at end number → at ≤ stop → stop ≤ at + 5 → least ≤ stop
-    → ((cs : List ℕ) → Agree stop cs bs → S cs ≡ S bs) → S bs ≡ fault told b → Spot S bs least told b
-spot-item S bs at end stop number told b least is low high past keeps e =
-    let here : at ≡ b = fault-at (length bs) at end number told b (sym is ∙ e) in
-    record { end = stop; after = omega arith; near = omega arith; past = past; same = λ cs a. keeps cs a ∙ e }
-
--- a fault of what follows S, or one of S itself
-spot-next : (S U : List ℕ → Reading (Unit {0})) (bs : List ℕ) (least mid told b : ℕ) → least ≤ mid → ((cs : List ℕ) → Agree mid cs bs → S cs ≡ S bs)
-    → (S bs ≡ fault told b → Spot S bs least told b) → (U bs ≡ fault told b → Spot U bs mid told b)
-    → next (S bs) (U bs) ≡ fault told b → Spot (λ cs. next (S cs) (U cs)) bs least told b
-spot-next S U bs least mid told b h keeps first then′ e = by (S bs) refl e
-  where
-    by : (r : Reading (Unit {0})) → S bs ≡ r → next r (U bs) ≡ fault told b → Spot (λ cs. next (S cs) (U cs)) bs least told b
-    by (got x) is f =
-        let s = then′ f in
-        record {
-          end = s .end;
-          after = s .after;
-          near = s .near;
-          past = omega (arith, s .past);
-          same = λ cs a. let before : S cs ≡ fine = keeps cs (agree-less mid (s .end) cs bs (s .past) a) ∙ is in rw (before, s .same cs a);
-        }
-    by (fault number at) is f =
-        let s = first (is ∙ f) in
-        record { end = s .end; after = s .after; near = s .near; past = s .past; same = λ cs a. rw (s .same cs a) }
-
 abbrev linksOf : ℕ → ℕ → List ℕ → Reading (Unit {0})
 linksOf nodes n bs = links (length bs) nodes (fromIn bs) (toIn bs) n
 
 abbrev receiversOf : (nodes m n : ℕ) → List ℕ → Reading (Unit {0})
 receiversOf nodes m n bs = receivers (length bs) (7 + 4 * m) nodes (receiverIn bs m) n
 
-spot-links : (bs : List ℕ) (nodes n told b : ℕ) → linksOf nodes n bs ≡ fault told b → Spot (linksOf nodes n) bs 5 told b
+spot-links : (bs : List ℕ) (nodes n told b : ℕ) → linksOf nodes n bs ≡ fault told b → Spot (linksOf nodes n) bs 5 5 told b
 unfolding links
 spot-links bs nodes zero told b e = absurd (not-fine (sym e))
 spot-links bs nodes (suc n) told b e =
-    spot-next (linksOf nodes n) (λ cs. item (length cs) (5 + 4 * n) (9 + 4 * n) (linkFault nodes (fromIn cs n) (toIn cs n) (among (fromIn cs) n (toIn cs n)))) bs 5 (5 + 4 * n) told b (omega arith)
+    spot-next (linksOf nodes n) (λ cs. item (length cs) (5 + 4 * n) (9 + 4 * n) (linkFault nodes (fromIn cs n) (toIn cs n) (among (fromIn cs) n (toIn cs n)))) bs 5 5 (5 + 4 * n) told b (omega arith)
     (λ cs a. same-links (5 + 4 * n) cs bs a nodes n (omega arith)) (spot-links bs nodes n told b)
-    (spot-item _ bs (5 + 4 * n) (9 + 4 * n) (9 + 4 * n) _ told b (5 + 4 * n) refl (omega arith) (omega arith) (omega arith) (λ cs a. same-link (9 + 4 * n) cs bs a nodes n (omega arith))) e
+    (spot-item _ bs 5 (5 + 4 * n) (9 + 4 * n) (9 + 4 * n) _ told b (5 + 4 * n) refl (omega arith) (omega arith) (omega arith) (λ cs a. same-link (9 + 4 * n) cs bs a nodes n (omega arith))) e
 
-spot-receivers : (bs : List ℕ) (nodes m n told b : ℕ) → receiversOf nodes m n bs ≡ fault told b → Spot (receiversOf nodes m n) bs (7 + 4 * m) told b
+spot-receivers : (bs : List ℕ) (nodes m n told b : ℕ) → receiversOf nodes m n bs ≡ fault told b → Spot (receiversOf nodes m n) bs 5 (7 + 4 * m) told b
 unfolding receivers
 spot-receivers bs nodes m zero told b e = absurd (not-fine (sym e))
 spot-receivers bs nodes m (suc n) told b e =
     spot-next (receiversOf nodes m n)
-    (λ cs. item (length cs) (7 + 4 * m + 2 * n) (7 + 4 * m + 2 * n + 2) (receiverFault nodes (previous (receiverIn cs m) n) (receiverIn cs m n))) bs (7 + 4 * m) (7 + 4 * m + 2 * n) told b (omega arith)
+    (λ cs. item (length cs) (7 + 4 * m + 2 * n) (7 + 4 * m + 2 * n + 2) (receiverFault nodes (previous (receiverIn cs m) n) (receiverIn cs m n))) bs 5 (7 + 4 * m) (7 + 4 * m + 2 * n) told b (omega arith)
     (λ cs a. same-receivers (7 + 4 * m + 2 * n) cs bs a nodes m n (omega arith)) (spot-receivers bs nodes m n told b)
-    (spot-item _ bs (7 + 4 * m + 2 * n) (7 + 4 * m + 2 * n + 2) (7 + 4 * m + 2 * n + 2) _ told b (7 + 4 * m + 2 * n) refl (omega arith) (omega arith) (omega arith)
+    (spot-item _ bs 5 (7 + 4 * m + 2 * n) (7 + 4 * m + 2 * n + 2) (7 + 4 * m + 2 * n + 2) _ told b (7 + 4 * m + 2 * n) refl (omega arith) (omega arith) (omega arith)
     (λ cs a. same-receiver (7 + 4 * m + 2 * n + 2) cs bs a nodes m n (omega arith))) e
 
 -- THE WHOLE
-
-abbrev endAt : (at : ℕ) → List ℕ → Reading (Unit {0})
-endAt at bs = item (length bs) at at (cond (ltb at (length bs)) 1 0)
 
 module _ (e : ℕ) (cs bs : List ℕ) (a : Agree e cs bs) where
   same-head : 5 ≤ e → headItem cs ≡ headItem bs
@@ -176,62 +107,52 @@ module _ (e : ℕ) (cs bs : List ℕ) (a : Agree e cs bs) where
       (countFault (rateIn bs (linksIn bs)) (receiversIn bs (linksIn bs))) (agree-long e cs bs a (7 + 4 * linksIn bs) h)
       (rw (agree-at e cs bs a (5 + 4 * linksIn bs) (omega arith), agree-at e cs bs a (6 + 4 * linksIn bs) (omega arith))))
 
-  same-end : (at : ℕ) → at < e → endAt at cs ≡ endAt at bs
-  same-end at h =
-      same-item (length cs) (length bs) at at (cond (ltb at (length cs)) 1 0) (cond (ltb at (length bs)) 1 0) (agree-long e cs bs a at (omega arith))
-      (ap (λ b. cond b 1 0) (let l : ltb (length cs) (suc at) ≡ ltb (length bs) (suc at) = agree-long e cs bs a (suc at) (omega arith) in grind (arith, tells)))
-
--- what is the same from `least` on has the fault at the same spot
-spot-like : (S U : List ℕ → Reading (Unit {0})) (bs : List ℕ) (least told b : ℕ) → ((cs : List ℕ) → Agree least cs bs → U cs ≡ S cs) → Spot S bs least told b → Spot U bs least told b
-spot-like S U bs least told b like s =
-    record { end = s .end; after = s .after; near = s .near; past = s .past; same = λ cs a. like cs (agree-less least (s .end) cs bs (s .past) a) ∙ s .same cs a }
-
 module _ (bs : List ℕ) (told b : ℕ) where
-  spot-head : headItem bs ≡ fault told b → Spot headItem bs 5 told b
-  spot-head = spot-item headItem bs 0 5 5 _ told b 5 refl (omega arith) (omega arith) (omega arith) (λ cs a. same-head 5 cs bs a (omega arith))
+  spot-head : headItem bs ≡ fault told b → Spot headItem bs 5 5 told b
+  spot-head = spot-item headItem bs 5 0 5 5 _ told b 5 refl (omega arith) (omega arith) (omega arith) (λ cs a. same-head 5 cs bs a (omega arith))
 
-  spot-links-part : linkItems bs ≡ fault told b → Spot linkItems bs 5 told b
+  spot-links-part : linkItems bs ≡ fault told b → Spot linkItems bs 5 5 told b
   spot-links-part e =
-      spot-like (linksOf (nodesIn bs) (linksIn bs)) linkItems bs 5 told b
+      spot-like (linksOf (nodesIn bs) (linksIn bs)) linkItems bs 5 5 told b
       (λ cs a. rw (agree-word 5 cs bs a 1 (omega arith), agree-word 5 cs bs a 3 (omega arith))) (spot-links bs (nodesIn bs) (linksIn bs) told b e)
 
-  spot-fed : linksEnd bs ≡ fault told b → Spot linksEnd bs (5 + 4 * linksIn bs) told b
+  spot-fed : linksEnd bs ≡ fault told b → Spot linksEnd bs 5 (5 + 4 * linksIn bs) told b
   spot-fed =
-      spot-item linksEnd bs (5 + 4 * linksIn bs) (5 + 4 * linksIn bs) (5 + 4 * linksIn bs) _ told b (5 + 4 * linksIn bs) refl (omega arith) (omega arith) (omega arith)
+      spot-item linksEnd bs 5 (5 + 4 * linksIn bs) (5 + 4 * linksIn bs) (5 + 4 * linksIn bs) _ told b (5 + 4 * linksIn bs) refl (omega arith) (omega arith) (omega arith)
       (λ cs a. same-fed (5 + 4 * linksIn bs) cs bs a (omega arith))
 
-  spot-counts : countsItem bs ≡ fault told b → Spot countsItem bs (5 + 4 * linksIn bs) told b
+  spot-counts : countsItem bs ≡ fault told b → Spot countsItem bs 5 (5 + 4 * linksIn bs) told b
   spot-counts =
-      spot-item countsItem bs (5 + 4 * linksIn bs) (7 + 4 * linksIn bs) (7 + 4 * linksIn bs) _ told b (5 + 4 * linksIn bs) refl (omega arith) (omega arith) (omega arith)
+      spot-item countsItem bs 5 (5 + 4 * linksIn bs) (7 + 4 * linksIn bs) (7 + 4 * linksIn bs) _ told b (5 + 4 * linksIn bs) refl (omega arith) (omega arith) (omega arith)
       (λ cs a. same-counts (7 + 4 * linksIn bs) cs bs a (omega arith))
 
-  spot-receivers-part : receiverItems bs ≡ fault told b → Spot receiverItems bs (7 + 4 * linksIn bs) told b
+  spot-receivers-part : receiverItems bs ≡ fault told b → Spot receiverItems bs 5 (7 + 4 * linksIn bs) told b
   spot-receivers-part e =
       let n : ℕ = linksIn bs in
-      spot-like (receiversOf (nodesIn bs) n (receiversIn bs n)) receiverItems bs (7 + 4 * n) told b
+      spot-like (receiversOf (nodesIn bs) n (receiversIn bs n)) receiverItems bs 5 (7 + 4 * n) told b
       (λ cs a. rw (agree-word (7 + 4 * n) cs bs a 1 (omega arith), agree-word (7 + 4 * n) cs bs a 3 (omega arith), agree-at (7 + 4 * n) cs bs a (6 + 4 * n) (omega arith)))
       (spot-receivers bs (nodesIn bs) n (receiversIn bs n) told b e)
 
-  spot-end : endItem bs ≡ fault told b → Spot endItem bs (7 + 4 * linksIn bs + 2 * receiversIn bs (linksIn bs)) told b
+  spot-end : endItem bs ≡ fault told b → Spot endItem bs 5 (7 + 4 * linksIn bs + 2 * receiversIn bs (linksIn bs)) told b
   spot-end =
       let n : ℕ = linksIn bs in
       let at : ℕ = 7 + 4 * n + 2 * receiversIn bs n in
-      spot-item endItem bs at at (suc at) _ told b at refl (omega arith) (omega arith) (omega arith)
+      spot-item endItem bs 5 at at (suc at) _ told b at refl (omega arith) (omega arith) (omega arith)
       (λ cs a.
       rw (agree-word (suc at) cs bs a 3 (omega arith), agree-at (suc at) cs bs a (6 + 4 * n) (omega arith)) (same-end (suc at) cs bs a at (omega arith)))
 
-  spot : faultIn bs ≡ fault told b → Spot faultIn bs 5 told b
+  spot : faultIn bs ≡ fault told b → Spot faultIn bs 5 5 told b
   unfolding faultIn
   spot =
       let n : ℕ = linksIn bs in
-      spot-next headItem _ bs 5 5 told b (omega arith) (λ cs a. same-head 5 cs bs a (omega arith)) spot-head
-      (spot-next linkItems _ bs 5 (5 + 4 * n) told b (omega arith)
+      spot-next headItem _ bs 5 5 5 told b (omega arith) (λ cs a. same-head 5 cs bs a (omega arith)) spot-head
+      (spot-next linkItems _ bs 5 5 (5 + 4 * n) told b (omega arith)
       (λ cs a.
       rw (agree-word (5 + 4 * n) cs bs a 1 (omega arith), agree-word (5 + 4 * n) cs bs a 3 (omega arith)) (same-links (5 + 4 * n) cs bs a (nodesIn bs) n (omega arith)))
       spot-links-part
-      (spot-next linksEnd _ bs (5 + 4 * n) (5 + 4 * n) told b (omega arith) (λ cs a. same-fed (5 + 4 * n) cs bs a (omega arith)) spot-fed
-      (spot-next countsItem _ bs (5 + 4 * n) (7 + 4 * n) told b (omega arith) (λ cs a. same-counts (7 + 4 * n) cs bs a (omega arith)) spot-counts
-      (spot-next receiverItems endItem bs (7 + 4 * n) (7 + 4 * n + 2 * receiversIn bs n) told b (omega arith)
+      (spot-next linksEnd _ bs 5 (5 + 4 * n) (5 + 4 * n) told b (omega arith) (λ cs a. same-fed (5 + 4 * n) cs bs a (omega arith)) spot-fed
+      (spot-next countsItem _ bs 5 (5 + 4 * n) (7 + 4 * n) told b (omega arith) (λ cs a. same-counts (7 + 4 * n) cs bs a (omega arith)) spot-counts
+      (spot-next receiverItems endItem bs 5 (7 + 4 * n) (7 + 4 * n + 2 * receiversIn bs n) told b (omega arith)
       (λ cs a.
       let e : ℕ = 7 + 4 * n + 2 * receiversIn bs n in
       rw (agree-word e cs bs a 1 (omega arith), agree-word e cs bs a 3 (omega arith), agree-at e cs bs a (6 + 4 * n) (omega arith))

@@ -11,9 +11,9 @@ use lib.ListN.{length, getD, set, replicate}
 use Rattle.std.proofs.shelf.Lists.{getD-replicate, getD-set-same, getD-set-other, length-set}
 use Rattle.std.proofs.shelf.Tests.{cases-eq, cases-lt, eq-eqb, ne-eqb, or-right}
 use Rattle.std.proofs.shelf.Ways.{tells}
-use Rattle.network.specs.Reading.{fault, fine, item}
+use Rattle.bytes.specs.Reading.{fault, fine, item}
 use Rattle.network.specs.Format.{among, linkFault, receiverFault, unfed, links, previous, receivers}
-use Rattle.network.proofs.Reading.{item-fine}
+use Rattle.bytes.proofs.Reading.{item-fine}
 use Rattle.network.proofs.Items.{each-link, each-receiver, same-unfed}
 
 -- LINKS

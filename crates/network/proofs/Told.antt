@@ -3,7 +3,7 @@ use mathlib.Core.Path.{_≡_, refl, ap, sym, _∙_}
 use mathlib.Core.List.{List}
 use Prim.Native.Nat.{ℕ}
 use Rattle.std.specs.declared.result.Result.the-variants.{Err}
-use Rattle.network.specs.Reading.{Reading, got, fault, fine, next}
+use Rattle.bytes.specs.Reading.{Reading, got, fault, fine, next}
 use Rattle.network.specs.Format.{headItem, linkItems, linksEnd, countsItem, receiverItems, endItem, faultIn}
 use Rattle.network.specs.Faults.{number}
 use Rattle.network.specs.Values.{Answers, Settled, Refuses}

@@ -9,12 +9,14 @@ use Rattle.std.specs.Joined.{joined}
 use Rattle.std.proofs.shelf.Lists.{length-append}
 use Rattle.std.proofs.shelf.Counted.{fill-by-all}
 use Rattle.network.specs.Network.{Link, Multicast, linkAt, Accepted, Within, Apart, InOrder}
-use Rattle.network.specs.Reading.{got, wordAt}
+use Rattle.bytes.specs.Reading.{got}
+use Rattle.bytes.specs.Words.{wordAt, wordBytes}
 use mathlib.Core.Bool.{true}
-use Rattle.network.specs.Format.{among, previous, wordBytes, linkBytes, headBytes, bytesOf, nodesIn, linksIn, fromIn, toIn, linkIn, rateIn, receiversIn, receiverIn, netIn, links, receivers, readNet}
+use Rattle.network.specs.Format.{among, previous, linkBytes, headBytes, bytesOf, nodesIn, linksIn, fromIn, toIn, linkIn, rateIn, receiversIn, receiverIn, netIn, links, receivers, readNet}
 use Rattle.network.proofs.Items.{among-found, among-at, good-links, all-links, each-fed, all-receivers, rise-above-previous}
 use Rattle.network.proofs.Judged.{Judged, judge}
-use Rattle.network.proofs.Places.{byte-behind, word-behind, word-back, length-words, length-links, words-at, froms-at, tos-at}
+use Rattle.bytes.proofs.Words.{byte-behind, word-behind, word-back, length-words, words-at}
+use Rattle.network.proofs.Places.{length-links, froms-at, tos-at}
 
 -- the bytes behind the head, and those behind the links
 abbrev behindHead : Multicast → List ℕ

@@ -7,20 +7,17 @@
 -- Assumes nothing.
 use mathlib.Core.Path.{_≡_}
 use mathlib.Core.Bool.{Bool, false, cond, _&&_, _||_, not}
-use mathlib.Core.List.{List, [], _∷_, _++_, map}
-use Prim.Native.Nat.{ℕ, zero, suc, _+_, _*_, _/_, _%_, _≤_}
+use mathlib.Core.List.{List, _∷_, _++_, map}
+use Prim.Native.Nat.{ℕ, zero, suc, _+_, _*_, _≤_}
 use lib.Dec.{eqb, ltb, leb}
 use lib.ListN.{length, getD, take}
 use Rattle.std.specs.Iters.{counting}
 use Rattle.std.specs.Joined.{joined}
 use Rattle.network.specs.Network.{Link, Multicast}
-use Rattle.network.specs.Reading.{Reading, got, fault, fine, next, item, wordAt}
+use Rattle.bytes.specs.Reading.{Reading, got, fault, fine, next, item}
+use Rattle.bytes.specs.Words.{wordBytes, wordAt}
 
 -- WRITING
-
--- a number of two bytes, the high one first
-abbrev pub wordBytes : ℕ → List ℕ
-wordBytes x = x / 256 ∷ x % 256 ∷ []
 
 abbrev pub linkBytes : Link → List ℕ
 linkBytes l = wordBytes (l .from) ++ wordBytes (l .to)

@@ -14,7 +14,7 @@ use Rattle.std.specs.declared.option.Option.the-variants.{None, Some}
 use Rattle.std.specs.declared.result.Result.{Result}
 use Rattle.std.specs.declared.result.Result.the-variants.{Ok, Err}
 use Rattle.network.specs.Network.{Network, Multicast, paired}
-use Rattle.network.specs.Reading.{Reading, got, fault, fine}
+use Rattle.bytes.specs.Reading.{Reading, got, fault, fine}
 use Rattle.network.specs.Format.{readNet, Local}
 use Rattle.network.specs.Faults.{number}
 use Rattle.network.specs.declared.net.Network.{Network as Columns}

@@ -2,20 +2,22 @@
 ghost use mathlib.Core.Path.{_≡_};
 ghost use mathlib.Core.Bool.{true, false};
 ghost use mathlib.Core.List.{map};
-ghost use Prim.Native.Nat.{ℕ, _+_, _*_, _^_, _<_, _≤_};
+ghost use Prim.Native.Nat.{ℕ, _+_, _*_, _<_, _≤_};
 ghost use lib.ListN.{length, getD};
 ghost use Rattle.std.specs.Iters.{counting};
 ghost use Rattle.std.specs.Of.Vec.{vec-items};
-ghost use Rattle.std.specs.Options.{Cases as BySome};
 ghost use Rattle.std.specs.Vec.{made, refused};
 ghost use Rattle.network.specs.Network.{Accepted, Limits, Rates};
-ghost use Rattle.network.specs.Reading.{wordAt, fine, next};
+ghost use Rattle.bytes.specs.Reading.{fine, next};
+ghost use Rattle.bytes.specs.Words.{wordAt};
 ghost use Rattle.network.specs.Format.{bytesOf, nodesIn, linksIn, rateIn, receiversIn, linkFault, receiverFault, unfed, headItem, linkItems, linksEnd, countsItem, receiverItems, endItem, faultIn, netIn};
 ghost use Rattle.network.specs.Values.{value, Answers, Settled, Tells, Names};
 use crate::fault::Fault;
 use crate::fault::ReadError;
 use crate::net::Multicast;
 use crate::net::Network;
+use bytes::word;
+use bytes::word_at;
 use std::alloc::AllocError;
 use std::alloc::Global;
 
@@ -45,23 +47,6 @@ struct Head {
 struct Counts {
     rate: u8,
     receivers: u8,
-}
-
-fn word(high: u8, low: u8) -> u16
-    ensures { λ r. ⌜ r ≡ 256 * high + low ⌝ }
-{
-    u16::from(high) * 256 + u16::from(low)
-}
-
-// The number in the two bytes from `at` on, the high one first, if they are there.
-fn word_at(bytes: &[u8], at: usize) -> Option<u16>
-    requires { ⌜ at < 2 ^ 32 ⌝ }
-    ensures { λ r. ⌜ BySome r (length (now (bytes .entry)) < at + 2) (λ x. (at + 2 ≤ length (now (bytes .entry))) × (x ≡ wordAt (now (bytes .entry)) at)) ⌝ }
-{
-    if bytes.len() < at + 2 {
-        return None;
-    }
-    Some(word(bytes[at], bytes[at + 1]))
 }
 
 fn read_head(bytes: &[u8]) -> Result<Head, ReadError>

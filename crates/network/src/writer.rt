@@ -7,10 +7,12 @@ ghost use Rattle.std.specs.Joined.{joined};
 ghost use Rattle.std.specs.Of.Vec.{vec-items};
 ghost use Rattle.std.specs.Vec.{made};
 ghost use Rattle.network.specs.Network.{paired};
-ghost use Rattle.network.specs.Reading.{got};
-ghost use Rattle.network.specs.Format.{wordBytes, linkBytes, bytesOf, readNet};
+ghost use Rattle.bytes.specs.Reading.{got};
+ghost use Rattle.network.specs.Format.{linkBytes, bytesOf, readNet};
 ghost use Rattle.network.specs.Values.{value};
 use crate::net::Multicast;
+use bytes::put_word;
+use bytes::put_words;
 use std::alloc::AllocError;
 use std::alloc::Global;
 
@@ -31,14 +33,6 @@ pub fn write(heap: Global, net: &Multicast) -> Result<Vec<u8>, AllocError>
     Ok(out)
 }
 
-fn put_word(out: &mut Vec<u8>, x: u16) -> Result<(), AllocError>
-    ensures { λ r. ⌜ made r (λ _. vec-items (now (out .exit)) ≡ vec-items (now (out .entry)) ++ wordBytes x) ⌝ }
-{
-    out.push((x / 256) as u8)?;
-    out.push((x % 256) as u8)?;
-    Ok(())
-}
-
 fn put_links(out: &mut Vec<u8>, from: &[u16], to: &[u16]) -> Result<(), AllocError>
     requires { ⌜ length (now to) ≡ length (now from) ⌝ }
     ensures { λ r. ⌜ made r (λ _. vec-items (now (out .exit)) ≡ vec-items (now (out .entry)) ++ joined linkBytes (paired (now (from .entry)) (now (to .entry)))) ⌝ }
@@ -46,15 +40,6 @@ fn put_links(out: &mut Vec<u8>, from: &[u16], to: &[u16]) -> Result<(), AllocErr
     for k in 0..from.len() {
         put_word(out, from[k])?;
         put_word(out, to[k])?;
-    }
-    Ok(())
-}
-
-fn put_words(out: &mut Vec<u8>, words: &[u16]) -> Result<(), AllocError>
-    ensures { λ r. ⌜ made r (λ _. vec-items (now (out .exit)) ≡ vec-items (now (out .entry)) ++ joined wordBytes (now (words .entry))) ⌝ }
-{
-    for word in words {
-        put_word(out, *word)?;
     }
     Ok(())
 }

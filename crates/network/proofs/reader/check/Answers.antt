@@ -4,7 +4,7 @@ use Prim.Native.Nat.{ℕ}
 use lib.ListN.{length}
 use Rattle.std.proofs.shelf.Results.{err-from-errBy}
 use Rattle.network.specs.Format.{rateIn, receiversIn}
-use Rattle.network.proofs.Reading.{fine-item}
+use Rattle.bytes.proofs.Reading.{fine-item}
 use Rattle.network.proofs.Told.{head-refuses, links-refuse, counts-refuse, receivers-refuse, all-fine}
 use Rattle.network.proofs.reader.check.Needs as need
 

@@ -5,10 +5,11 @@ use Prim.Native.Nat.{ℕ, _+_, _*_, _<_, _≤_}
 use native.Mathlib.Omega.{arith}
 use lib.ListN.{length, getD}
 use Rattle.std.proofs.shelf.Ways.{tells}
-use Rattle.network.specs.Reading.{fault, fine, next, item, wordAt}
+use Rattle.bytes.specs.Reading.{fault, fine, next, item}
+use Rattle.bytes.specs.Words.{wordAt}
 use Rattle.network.specs.Format.{nodesIn, linksIn, fromIn, toIn, among, linkFault, unfed, links, linkItems, linksEnd}
 use Rattle.network.specs.Faults.{number}
-use Rattle.network.proofs.Reading.{item-short, item-fine, item-told}
+use Rattle.bytes.proofs.Reading.{item-short, item-fine, item-told}
 use Rattle.network.proofs.Names.{some-number}
 use Rattle.network.proofs.Progress.{Marks, links-more, links-fault, links-long, marks-none, marks-more, marks-fault, marks-unfed}
 use Rattle.network.proofs.reader.check_links.Needs as need

@@ -1,6 +1,6 @@
 use mathlib.Core.Path.{_≡_}
 use lib.ListN.{length}
-use Rattle.network.specs.Reading.{fine}
+use Rattle.bytes.specs.Reading.{fine}
 use Rattle.network.specs.Format.{nodesIn, fromIn, toIn, links}
 use Rattle.network.proofs.Progress.{Marks}
 use Rattle.network.proofs.reader.check_links.Given as given

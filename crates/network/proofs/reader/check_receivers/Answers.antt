@@ -7,10 +7,11 @@ use native.Mathlib.Omega.{arith}
 use lib.Dec.{ltb}
 use lib.ListN.{length}
 use Rattle.std.proofs.shelf.Tests.{lt-ltb, le-ltb}
-use Rattle.network.specs.Reading.{fault, fine, next, item, wordAt}
+use Rattle.bytes.specs.Reading.{fault, fine, next, item}
+use Rattle.bytes.specs.Words.{wordAt}
 use Rattle.network.specs.Format.{nodesIn, linksIn, receiversIn, receiverIn, receiverFault, previous, receivers, receiverItems, endItem}
 use Rattle.network.specs.Faults.{number}
-use Rattle.network.proofs.Reading.{item-short, item-fine, item-told}
+use Rattle.bytes.proofs.Reading.{item-short, item-fine, item-told}
 use Rattle.network.proofs.Names.{some-number}
 use Rattle.network.proofs.Progress.{receivers-more, receivers-fault, receivers-long}
 use Rattle.network.proofs.reader.check_receivers.Needs as need

@@ -1,7 +1,7 @@
 use mathlib.Core.Path.{_≡_}
 use Prim.Native.Nat.{_+_, _*_}
 use lib.ListN.{length}
-use Rattle.network.specs.Reading.{fine}
+use Rattle.bytes.specs.Reading.{fine}
 use Rattle.network.specs.Format.{nodesIn, linksIn, receiverIn, previous, receivers}
 use Rattle.network.proofs.reader.check_receivers.Given as given
 

@@ -4,7 +4,7 @@ use Prim.Native.Nat.{ℕ, _+_, _*_}
 use native.Mathlib.Omega.{arith}
 use Rattle.std.specs.Iters.{counting}
 use Rattle.std.proofs.shelf.Counted.{map-counting-more}
-use Rattle.network.specs.Reading.{wordAt}
+use Rattle.bytes.specs.Words.{wordAt}
 use Rattle.network.proofs.reader.column.Needs as need
 
 pub loop-k-holds : need.loop-k-holds

@@ -3,7 +3,7 @@ use mathlib.Core.List.{map}
 use Prim.Native.Nat.{_+_, _*_}
 use Rattle.std.specs.Iters.{counting}
 use Rattle.std.specs.Of.Vec.{vec-items}
-use Rattle.network.specs.Reading.{wordAt}
+use Rattle.bytes.specs.Words.{wordAt}
 use Rattle.network.proofs.reader.column.Given as given
 
 abbrev pub Inv-loop-k : given.InvT-loop-k

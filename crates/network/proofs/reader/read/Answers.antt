@@ -2,7 +2,7 @@ use mathlib.Core.Path.{ap, sym, _∙_}
 use mathlib.Core.List.{List}
 use Prim.Native.Nat.{ℕ}
 use Rattle.std.proofs.shelf.Results.{err-from-errBy}
-use Rattle.network.specs.Reading.{got}
+use Rattle.bytes.specs.Reading.{got}
 use Rattle.network.specs.Format.{bytesOf, netIn}
 use Rattle.network.proofs.Judged.{judged}
 use Rattle.network.proofs.Kept.{bytes-kept}

@@ -5,7 +5,7 @@ use native.Mathlib.Omega.{arith}
 use lib.ListN.{length, getD}
 use Rattle.std.proofs.shelf.Ways.{tells}
 use Rattle.network.specs.Format.{receiversIn}
-use Rattle.network.proofs.Reading.{item-short, item-fine, item-told}
+use Rattle.bytes.proofs.Reading.{item-short, item-fine, item-told}
 use Rattle.network.proofs.reader.read_counts.Needs as need
 
 -- the second of the two bytes, as the program reads it

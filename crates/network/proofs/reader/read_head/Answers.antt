@@ -2,8 +2,8 @@ use native.Mathlib.Omega.{arith}
 use lib.ListN.{length}
 use Rattle.std.proofs.shelf.Tests.{ltb-true, ltb-false}
 use Rattle.std.proofs.shelf.Ways.{tells}
-use Rattle.network.specs.Reading.{wordAt}
-use Rattle.network.proofs.Reading.{item-short, item-fine, item-told}
+use Rattle.bytes.specs.Words.{wordAt}
+use Rattle.bytes.proofs.Reading.{item-short, item-fine, item-told}
 use Rattle.network.proofs.reader.read_head.Needs as need
 
 pub returns-in-rest : need.returns-in-rest

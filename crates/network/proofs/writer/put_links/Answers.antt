@@ -7,7 +7,8 @@ use Rattle.std.specs.Joined.{joined}
 use Rattle.std.specs.Of.Vec.{vec-items}
 use Rattle.std.proofs.shelf.Lists.{joined-more, take-more, take-all}
 use Rattle.network.specs.Network.{paired, linkAt}
-use Rattle.network.specs.Format.{wordBytes, linkBytes}
+use Rattle.bytes.specs.Words.{wordBytes}
+use Rattle.network.specs.Format.{linkBytes}
 use Rattle.network.proofs.Sound.{length-paired, paired-at}
 use Rattle.network.proofs.writer.put_links.Needs as need
 

@@ -6,7 +6,8 @@ use lib.ListN.{length}
 use Rattle.std.specs.Joined.{joined}
 use Rattle.std.specs.Of.Vec.{vec-len, vec-items}
 use Rattle.network.specs.Network.{paired}
-use Rattle.network.specs.Format.{wordBytes, linkBytes, headBytes, bytesOf, readNet}
+use Rattle.bytes.specs.Words.{wordBytes}
+use Rattle.network.specs.Format.{linkBytes, headBytes, bytesOf, readNet}
 use Rattle.network.specs.Values.{value}
 use Rattle.network.proofs.Sound.{links-long, accepted}
 use Rattle.network.proofs.Written.{read-back}

@@ -1,6 +1,6 @@
 use native.Mathlib.Omega.{arith}
-use Rattle.network.specs.Reading.{wordAt}
-use Rattle.network.proofs.reader.word_at.Needs as need
+use Rattle.bytes.specs.Words.{wordAt}
+use Rattle.bytes.proofs.word_at.Needs as need
 
 pub returns : need.returns
 unfolding wordAt

@@ -6,8 +6,8 @@ use lib.ListN.{getD, take}
 use Rattle.std.specs.Joined.{joined}
 use Rattle.std.specs.Of.Vec.{vec-items}
 use Rattle.std.proofs.shelf.Lists.{joined-more, take-more, take-all}
-use Rattle.network.specs.Format.{wordBytes}
-use Rattle.network.proofs.writer.put_words.Needs as need
+use Rattle.bytes.specs.Words.{wordBytes}
+use Rattle.bytes.proofs.put_words.Needs as need
 
 pub loop-word-again : need.loop-word-again
 loop-word-again c =

@@ -3,8 +3,8 @@ use mathlib.Core.List.{_++_}
 use lib.ListN.{take}
 use Rattle.std.specs.Joined.{joined}
 use Rattle.std.specs.Of.Vec.{vec-items}
-use Rattle.network.specs.Format.{wordBytes}
-use Rattle.network.proofs.writer.put_words.Given as given
+use Rattle.bytes.specs.Words.{wordBytes}
+use Rattle.bytes.proofs.put_words.Given as given
 
 abbrev pub Inv-loop-word : given.InvT-loop-word
 Inv-loop-word l = vec-items (l .out) ≡ vec-items (l .entry .out) ++ joined wordBytes (take (l .word-index) (l .words))

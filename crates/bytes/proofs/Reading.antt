@@ -5,7 +5,7 @@ use Prim.Native.Nat.{ℕ, _<_, _≤_}
 use native.Mathlib.Omega.{arith}
 use lib.Dec.{eqb, ltb}
 use Rattle.std.proofs.shelf.Tests.{ltb-false, eqb-true, le-ltb, lt-ltb, eq-eqb, ne-eqb}
-use Rattle.network.specs.Reading.{Reading, got, fault, fine, next, item}
+use Rattle.bytes.specs.Reading.{Reading, got, fault, fine, next, item}
 
 -- a fault is no value
 pub not-fine : {number at : ℕ} → fault number at ≡ fine → ⊥

@@ -2,13 +2,10 @@
 --   Reading   a value, or the number of a fault and the byte at which the item that has it begins
 --   next      one item and then what follows it: the first fault is told
 --   item      one item, judged
---   wordAt    a number of two bytes, the high one first
 -- Assumes nothing.
 use mathlib.Core.Bool.{cond}
-use mathlib.Core.List.{List}
-use Prim.Native.Nat.{ℕ, _+_, _*_}
+use Prim.Native.Nat.{ℕ}
 use lib.Dec.{eqb, ltb}
-use lib.ListN.{getD}
 
 pub data Reading (A : Type 0) : Type 0 where
   got : A → Reading A
@@ -26,6 +23,3 @@ next (fault number at) r = fault number at
 -- an item that is cut short has fault 1, the lowest of all
 unfoldable pub item : (len at end number : ℕ) → Reading (Unit {0})
 item len at end number = cond (ltb len end) (fault 1 at) (cond (eqb number 0) fine (fault number at))
-
-unfoldable pub wordAt : List ℕ → ℕ → ℕ
-wordAt bs i = 256 * getD bs i 0 + getD bs (i + 1) 0

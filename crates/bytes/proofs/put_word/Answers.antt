@@ -2,7 +2,7 @@ use mathlib.Core.Path.{ap, _∙_}
 use mathlib.Core.List.{_∷_, [], _++_, append-assoc}
 use Prim.Native.Nat.{_/_, _%_}
 use Rattle.std.specs.Of.Vec.{vec-items}
-use Rattle.network.proofs.writer.put_word.Needs as need
+use Rattle.bytes.proofs.put_word.Needs as need
 
 pub returns : need.returns
 returns c =
