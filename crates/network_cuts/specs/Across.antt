@@ -3,7 +3,7 @@
 --   IsPacket, Message   a packet of n symbols out of q, and a message of h such packets
 --   Honest              a scheme that, given such packets, makes such packets
 --   Collision           two different elements that a function takes to the same
---   Alike               behind a cut, two different messages are found for which the receiver gets the same packets
+--   Confused, Alike     behind a cut, two different messages are found for which the receiver gets the same packets
 --   NoneReads           so no function of what the receiver got gives back every message
 -- Packets have at least one symbol, out of at least two. Of the network nothing more is asked than the cut, which also says that the
 -- receiver is not the source: the links may stand in any order.
@@ -40,10 +40,12 @@ pub record Collision {A B : Type 0} (P : A → Type 0) (F : A → B) : Type 0 wh
   pub differ : one ≡ two → ⊥
   pub same : F one ≡ F two
 
+-- whatever the scheme, two different messages give the node p the same packets
+abbrev pub Confused : Network → (h p : ℕ) → Type 0
+Confused z h p = (n q : ℕ) → 1 ≤ n → 2 ≤ q → (f : Scheme) → Honest n q f → Collision (Message n q h) (got z f p)
+
 abbrev pub Alike : Type 0
-Alike =
-    (z : Network) (h p : ℕ) → Cut z h p
-    → (n q : ℕ) → 1 ≤ n → 2 ≤ q → (f : Scheme) → Honest n q f → Collision (Message n q h) (got z f p)
+Alike = (z : Network) (h p : ℕ) → Cut z h p → Confused z h p
 
 abbrev pub NoneReads : Type 0
 NoneReads =

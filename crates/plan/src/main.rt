@@ -1,10 +1,18 @@
-// Plans how to send a stream over a net. As yet it reads the net and tells what it is.
+// Plans how to send a stream over a net. As yet it finds the ways to each listener, or a cut.
+use flow::Found;
+use flow::paths_or_cut;
+use flow_search::Adjacency;
+use network::Multicast;
+use network::Network;
 use network::ReadError;
 use std::alloc::AllocError;
+use std::alloc::Global;
 use std::env;
 use std::fs::File;
 use std::io;
+use std::io::BufWriter;
 use std::io::Read;
+use std::io::Write;
 
 // The longest net has 4,231 bytes. No fault depends on what lies behind its item, so one byte more is all that need be read.
 const LONGEST: u64 = 4232;
@@ -19,10 +27,95 @@ impl From<io::Error> for Stopped as StoppedFromIo {
     }
 }
 
-impl From<AllocError> for Stopped as StoppedFromAlloc {
-    fn from(_e: AllocError) -> Stopped {
-        Stopped
+// The ways to each listener, or the first listener with a cut, and its cut.
+#[derive(Drop)]
+enum Routes {
+    Ways(Vec<Vec<Vec<u16>>>),
+    Cut(u16, [bool; 256]),
+}
+
+fn find_routes(heap: Global, net: &Multicast) -> Result<Routes, AllocError> {
+    let adjacency = Adjacency::of(heap, &net.network)?;
+    let mut all = Vec::new(heap);
+    for listener in net.receivers.iter() {
+        match paths_or_cut(heap, &net.network, &adjacency, *listener, net.rate) {
+            Ok(Found::Paths(ways)) => all.push(ways)?,
+            Ok(Found::Cut(side)) => return Ok(Routes::Cut(*listener, side)),
+            Err(_) => return Err(AllocError),
+        }
     }
+    Ok(Routes::Ways(all))
+}
+
+// A line by its number and its ends.
+fn write_line<W: Write>(out: &mut W, network: &Network, k: usize) -> io::Result<()> {
+    if k < network.from.len() && k < network.to.len() {
+        let from = network.from[k];
+        let to = network.to[k];
+        write!(out, "{k} ({from}-{to})")?;
+    }
+    Ok(())
+}
+
+fn write_way<W: Write>(
+    out: &mut W,
+    network: &Network,
+    number: usize,
+    way: &[u16],
+) -> io::Result<()> {
+    write!(out, "  way {number}: ")?;
+    for i in 0..way.len() {
+        if i > 0 {
+            write!(out, ", ")?;
+        }
+        write_line(out, network, way[i] as usize)?;
+    }
+    writeln!(out)
+}
+
+fn write_ways<W: Write>(out: &mut W, net: &Multicast, all: &[Vec<Vec<u16>>]) -> io::Result<()> {
+    for (listener, ways) in net.receivers.iter().zip(all.iter()) {
+        writeln!(out, "listener {listener}")?;
+        let mut number = 0usize;
+        for way in ways.iter() {
+            number = number.saturating_add(1);
+            write_way(out, &net.network, number, way)?;
+        }
+    }
+    Ok(())
+}
+
+// Whether line k leads out of the set.
+fn leads_out(network: &Network, side: &[bool; 256], k: usize) -> bool {
+    if k >= network.from.len() || k >= network.to.len() {
+        return false;
+    }
+    let from = network.from[k] as usize;
+    let to = network.to[k] as usize;
+    from < 256 && to < 256 && side[from] && !side[to]
+}
+
+fn write_cut<W: Write>(
+    out: &mut W,
+    network: &Network,
+    listener: u16,
+    side: &[bool; 256],
+) -> io::Result<()> {
+    let mut count = 0u16;
+    for k in 0..network.from.len() {
+        if leads_out(network, side, k) {
+            count = count.saturating_add(1);
+        }
+    }
+    writeln!(out, "listener {listener}: cut, {count} lines lead out")?;
+    for k in 0..network.from.len() {
+        if leads_out(network, side, k) {
+            write!(out, "  ")?;
+            write_line(out, network, k)?;
+            writeln!(out)?;
+        }
+    }
+    Ok(())
 }
 
 fn read_file(rt: &LibcRuntime, path: &str) -> io::Result<Vec<u8>> {
@@ -32,7 +125,8 @@ fn read_file(rt: &LibcRuntime, path: &str) -> io::Result<Vec<u8>> {
     Ok(bytes)
 }
 
-fn plan(rt: &LibcRuntime, path: &str) -> Result<(), Stopped> {
+// Reads the net, or says why it can't be read.
+fn read_net(rt: &LibcRuntime, path: &str) -> Result<Multicast, Stopped> {
     let bytes = match read_file(rt, path) {
         Ok(bytes) => bytes,
         Err(e) => {
@@ -40,27 +134,33 @@ fn plan(rt: &LibcRuntime, path: &str) -> Result<(), Stopped> {
             return Err(Stopped);
         }
     };
-    let net = match network::read(rt.alloc(), &bytes) {
-        Ok(net) => net,
+    match network::read(rt.alloc(), &bytes) {
+        Ok(net) => Ok(net),
         Err(ReadError::Faulty(fault, at)) => {
             let number = fault.number();
             let text = fault.text();
             eprintln!(rt, "plan: {path}: fault {number} at byte {at}: {text}")?;
-            return Err(Stopped);
+            Err(Stopped)
         }
         Err(ReadError::Memory) => {
             eprintln!(rt, "plan: {path}: not enough memory")?;
-            return Err(Stopped);
+            Err(Stopped)
         }
+    }
+}
+
+fn plan(rt: &LibcRuntime, path: &str) -> Result<(), Stopped> {
+    let net = read_net(rt, path)?;
+    let Ok(routes) = find_routes(rt.alloc(), &net) else {
+        eprintln!(rt, "plan: {path}: not enough memory")?;
+        return Err(Stopped);
     };
-    let places = net.network.nodes;
-    let lines = net.network.from.len();
-    let rate = net.rate;
-    let listeners = net.receivers.len();
-    println!(
-        rt,
-        "net: {places} places, {lines} lines, rate {rate}, {listeners} listeners"
-    )?;
+    let mut out = BufWriter::new(rt.stdout());
+    match routes {
+        Routes::Ways(all) => write_ways(&mut out, &net, &all)?,
+        Routes::Cut(listener, side) => write_cut(&mut out, &net.network, listener, &side)?,
+    }
+    out.flush()?;
     Ok(())
 }
 

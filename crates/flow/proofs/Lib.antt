@@ -1,0 +1,3 @@
+pub mod Turned
+pub mod Followed
+pub mod Served

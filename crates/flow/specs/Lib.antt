@@ -1,0 +1,2 @@
+pub mod Augment
+pub mod Found

@@ -1,0 +1,5 @@
+pub mod Made
+pub mod Listed
+pub mod Queued
+pub mod Visited
+pub mod Searched

@@ -1,0 +1,3 @@
+pub mod Flow
+pub mod Order
+pub mod Promise
