@@ -1,0 +1,11 @@
+pub mod Each
+pub mod Paths
+pub mod Hand
+pub mod Choose
+pub mod Pass
+pub mod Track
+pub mod Steps
+pub mod Loop
+pub mod Carry
+pub mod Served
+pub mod Prescribed

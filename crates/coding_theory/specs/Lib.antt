@@ -1,0 +1,4 @@
+pub mod Paths
+pub mod Coding
+pub mod Rule
+pub mod Promise

@@ -1,0 +1,4 @@
+pub mod Given
+pub mod Routes
+pub mod Readers
+pub mod Main

@@ -1,0 +1,2 @@
+pub mod Relay
+pub mod Law

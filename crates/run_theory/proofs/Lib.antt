@@ -1,0 +1,5 @@
+pub mod Carries
+pub mod Finds
+pub mod Stages
+pub mod Runs
+pub mod Rest
