@@ -1,0 +1,4 @@
+pub mod Passing
+pub mod State
+pub mod Decoding
+pub mod Meaning

@@ -1,0 +1,28 @@
+-- What the program's values stand for. Defines, in this order:
+--   Finds         that a value is what the definition finds for all receivers
+--   reader, plan  the reader, and the plan, that a value is
+-- Assumes nothing.
+use mathlib.Core.Path.{_≡_}
+use mathlib.Core.Bool.{Bool}
+use mathlib.Core.List.{map}
+use Prim.Native.Nat.{ℕ}
+use Rattle.std.specs.Of.Vec.{vec-items}
+use Rattle.flow.specs.Augment.{Marks}
+use Rattle.coding.specs.Passing.{aimsOf}
+use Rattle.coding.specs.declared.coded.Decoder.{Decoder}
+use Rattle.planner_theory.specs.Plan.{Reader, Plan, served, unserved, Routed, routed, stopped}
+use Rattle.planner.specs.declared.routes.Routes.{Routes}
+use Rattle.planner.specs.declared.routes.Routes.the-variants.{Paths, Cut}
+use Rattle.planner.specs.declared.plan.Plan.{Plan as Value}
+use Rattle.planner.specs.declared.plan.Plan.the-variants.{Served, Unserved}
+
+abbrev pub Finds : Routes → Routed → Type 0
+Finds (Paths v) r = r ≡ routed (aimsOf (vec-items v))
+Finds (Cut p flags) r = (side : ℕ → Bool) × (r ≡ stopped p side) × Marks flags side
+
+abbrev pub reader : Decoder → Reader
+reader d = record { links = vec-items (d .links); rows = map vec-items (vec-items (d .rows)) }
+
+abbrev pub plan : Value → Plan
+plan (Served c) = served (map vec-items (vec-items (c .coefficients))) (map reader (vec-items (c .receivers)))
+plan (Unserved p side) = unserved p side
