@@ -1,0 +1,4 @@
+pub mod Refusals
+pub mod Memory
+pub mod Mixing
+pub mod Values
