@@ -1,12 +1,10 @@
 // Plans how to send a stream over a net. As yet it finds the ways to each listener, or a cut.
-use flow::Found;
-use flow::paths_or_cut;
-use flow_search::Adjacency;
+use coding::Aim;
 use network::Multicast;
 use network::Network;
 use network::ReadError;
-use std::alloc::AllocError;
-use std::alloc::Global;
+use planner::Routes;
+use planner::find_routes;
 use std::env;
 use std::fs::File;
 use std::io;
@@ -25,26 +23,6 @@ impl From<io::Error> for Stopped as StoppedFromIo {
     fn from(_e: io::Error) -> Stopped {
         Stopped
     }
-}
-
-// The ways to each listener, or the first listener with a cut, and its cut.
-#[derive(Drop)]
-enum Routes {
-    Ways(Vec<Vec<Vec<u16>>>),
-    Cut(u16, [bool; 256]),
-}
-
-fn find_routes(heap: Global, net: &Multicast) -> Result<Routes, AllocError> {
-    let adjacency = Adjacency::of(heap, &net.network)?;
-    let mut all = Vec::new(heap);
-    for listener in net.receivers.iter() {
-        match paths_or_cut(heap, &net.network, &adjacency, *listener, net.rate) {
-            Ok(Found::Paths(ways)) => all.push(ways)?,
-            Ok(Found::Cut(side)) => return Ok(Routes::Cut(*listener, side)),
-            Err(_) => return Err(AllocError),
-        }
-    }
-    Ok(Routes::Ways(all))
 }
 
 // A line by its number and its ends.
@@ -73,13 +51,14 @@ fn write_way<W: Write>(
     writeln!(out)
 }
 
-fn write_ways<W: Write>(out: &mut W, net: &Multicast, all: &[Vec<Vec<u16>>]) -> io::Result<()> {
-    for (listener, ways) in net.receivers.iter().zip(all.iter()) {
+fn write_ways<W: Write>(out: &mut W, network: &Network, aims: &[Aim]) -> io::Result<()> {
+    for aim in aims.iter() {
+        let listener = aim.node;
         writeln!(out, "listener {listener}")?;
         let mut number = 0usize;
-        for way in ways.iter() {
+        for way in aim.paths.iter() {
             number = number.saturating_add(1);
-            write_way(out, &net.network, number, way)?;
+            write_way(out, network, number, way)?;
         }
     }
     Ok(())
@@ -157,8 +136,8 @@ fn plan(rt: &LibcRuntime, path: &str) -> Result<(), Stopped> {
     };
     let mut out = BufWriter::new(rt.stdout());
     match routes {
-        Routes::Ways(all) => write_ways(&mut out, &net, &all)?,
-        Routes::Cut(listener, side) => write_cut(&mut out, &net.network, listener, &side)?,
+        Routes::Paths(aims) => write_ways(&mut out, &net.network, &aims)?,
+        Routes::Cut { receiver, side } => write_cut(&mut out, &net.network, receiver, &side)?,
     }
     out.flush()?;
     Ok(())
