@@ -1,5 +1,5 @@
 -- What the program makes is what the definition has: the receivers with their paths, the readers, the flags of a cut.
-use mathlib.Core.Path.{_≡_, refl, ap, ap₂, sym, _∙_}
+use mathlib.Core.Path.{_≡_, refl, ap, ap₂, subst, sym, _∙_}
 use mathlib.Core.Bool.{Bool, false}
 use mathlib.Core.List.{List, [], _∷_, map}
 use Prim.Native.Nat.{ℕ, suc, _<_}
@@ -13,7 +13,13 @@ use Rattle.coding_theory.specs.Paths.{Each, none, and, Aim}
 use Rattle.coding_theory.specs.Coding.{Receiver, currentAt}
 use Rattle.coding.specs.Meaning.{Away, Decodes}
 use Rattle.coding.specs.declared.coded.Decoder.{Decoder}
-use Rattle.planner_theory.specs.Plan.{Reader, linkOf, readerOf}
+use Rattle.network.specs.Values.{graph, value}
+use Rattle.network.specs.declared.net.Multicast.{Multicast as Net}
+use Rattle.network.proofs.Sound.{accepted}
+use Rattle.planner_theory.specs.Plan.{Reader, unserved, routed, stopped, route, linkOf, readerOf, planned, planOf}
+use Rattle.planner_theory.specs.Promise.{Main, Unserved}
+use Rattle.planner_theory.proofs.Routes.{Route, routes}
+use Rattle.planner_theory.proofs.Main.{main-promise}
 use Rattle.planner.specs.Values.{reader}
 
 pub away : (aims : List Aim) → ((i : ℕ) → i < length (map (λ a. a .node) aims) → 0 < getD (map (λ a. a .node) aims) i 0) → Away aims
@@ -42,3 +48,16 @@ pub same-flags : (flags : List Bool) (side : ℕ → Bool) → length flags ≡ 
 same-flags flags side long marks =
     ext-getD false flags (table 256 side) (long ∙ sym (length-table 256 side))
     (λ q l. let m : q < 256 = omega arith in sym (getD-table 256 q side false m ∙ marks q))
+
+-- what is found is what is promised
+pub paths-serve : (m : Net) (aims : List Aim) → route (graph (m .network)) (m .rate) (vec-items (m .receivers)) ≡ routed aims
+    → Route (graph (m .network)) (m .rate) (vec-items (m .receivers)) (routed aims)
+paths-serve m aims e =
+    let ok = accepted m in
+    subst (Route (graph (m .network)) (m .rate) (vec-items (m .receivers))) e (routes (graph (m .network)) (ok .sound) (m .rate) (vec-items (m .receivers)) (ok .placed))
+
+pub cut-serves : (m : Net) (p : ℕ) (flags : List Bool) (side : ℕ → Bool) → length flags ≡ 256 → route (graph (m .network)) (m .rate) (vec-items (m .receivers)) ≡ stopped p side
+    → ((q : ℕ) → side q ≡ getD flags q false) → Unserved (value m) p flags
+cut-serves m p flags side long e marks =
+    let exact : unserved p flags ≡ planOf (value m) = ap (unserved p) (same-flags flags side long marks) ∙ ap (planned (graph (m .network)) (m .rate)) (sym e) in
+    subst (Main (value m)) (sym exact) (main-promise (value m) (accepted m))

@@ -18,19 +18,14 @@ use Rattle.coding.specs.State.{Served}
 use Rattle.coding.specs.Meaning.{Away, Means}
 use Rattle.planner_theory.specs.Plan.{served, unserved, routed, stopped, route, readerOf, planned, planOf}
 use Rattle.planner_theory.specs.Promise.{Main}
-use Rattle.planner_theory.proofs.Routes.{Route, routes}
+use Rattle.planner_theory.proofs.Routes.{Route}
 use Rattle.planner_theory.proofs.Main.{main-promise}
-use Rattle.planner.specs.Values.{Finds, reader}
+use Rattle.planner.specs.Values.{Finds, Serving, reader}
 use Rattle.planner.proofs.Exact.{away, same-readers, same-flags}
 use Rattle.planner.proofs.maker.make_plan.Needs as need
 
--- the receivers with their paths, as the search leaves them
-module _ (m : Net) (aims : List Aim) (e : route (graph (m .network)) (m .rate) (vec-items (m .receivers)) ≡ routed aims) where
-  found : Route (graph (m .network)) (m .rate) (vec-items (m .receivers)) (routed aims)
-  found =
-      let ok = accepted m in
-      subst (Route (graph (m .network)) (m .rate) (vec-items (m .receivers))) e (routes (graph (m .network)) (ok .sound) (m .rate) (vec-items (m .receivers)) (ok .placed))
-
+-- what `code` asks for, from what the search promises
+module _ (m : Net) (aims : List Aim) (found : Route (graph (m .network)) (m .rate) (vec-items (m .receivers)) (routed aims)) where
   few : Served (graph (m .network)) (m .rate) aims
   few =
       let ok = accepted m in
@@ -46,18 +41,18 @@ pub code-requires : need.code-requires
 code-requires c κs =
     let m = c .args .net .now in
     let aims = vec-items (c .in-Paths .aims) in
-    let e = subst (λ x. Finds x (route (graph (m .network)) (m .rate) (vec-items (m .receivers)))) (c .in-Paths .is) (c .in-Continue-aims .ensures tt) in
+    let found = subst (λ x. Serving (value m) x) (c .in-Paths .is) (c .in-Continue-aims .ensures tt .serves) in
     let same = sym (c .deref .ensures .value) in
     record {
-      served = subst (λ l. Served (graph (m .network)) (m .rate) (aimsOf l)) same (few m (aimsOf aims) e);
-      away = subst (λ l. Away (aimsOf l)) same (none-at-source m (aimsOf aims) e);
+      served = subst (λ l. Served (graph (m .network)) (m .rate) (aimsOf l)) same (few m (aimsOf aims) found);
+      away = subst (λ l. Away (aimsOf l)) same (none-at-source m (aimsOf aims) found);
     }
 
 pub returns-in-Continue-coded : need.returns-in-Continue-coded
 returns-in-Continue-coded c =
     let m = c .args .net .now in
     let aims = vec-items (c .in-Paths .aims) in
-    let e = subst (λ x. Finds x (route (graph (m .network)) (m .rate) (vec-items (m .receivers)))) (c .in-Paths .is) (c .in-Continue-aims .ensures tt) in
+    let e = subst (λ x. Finds x (route (graph (m .network)) (m .rate) (vec-items (m .receivers)))) (c .in-Paths .is) (c .in-Continue-aims .ensures tt .exact) in
     let coded = c .in-Continue-coded .coded in
     let means = subst (λ l. Means (m .rate) coded (code byteField (graph (m .network)) (m .rate) (aimsOf l))) (c .deref .ensures .value) (c .in-Continue-coded .ensures tt) in
     let exact : served (map vec-items (vec-items (coded .coefficients))) (map reader (vec-items (coded .receivers))) ≡ planOf (value m) =
@@ -68,7 +63,7 @@ returns-in-Continue-coded c =
 pub returns-in-Cut : need.returns-in-Cut
 returns-in-Cut c =
     let m = c .args .net .now in
-    let e = subst (λ x. Finds x (route (graph (m .network)) (m .rate) (vec-items (m .receivers)))) (c .in-Cut .is) (c .in-Continue-aims .ensures tt) in
+    let e = subst (λ x. Finds x (route (graph (m .network)) (m .rate) (vec-items (m .receivers)))) (c .in-Cut .is) (c .in-Continue-aims .ensures tt .exact) in
     let long : length (c .in-Cut .side) ≡ 256 = search needs in
     let exact : unserved (c .in-Cut .receiver) (c .in-Cut .side) ≡ planOf (value m) =
     ap (unserved (c .in-Cut .receiver)) (same-flags (c .in-Cut .side) (e .0) long (e .2)) ∙ ap (planned (graph (m .network)) (m .rate)) (sym (e .1)) in

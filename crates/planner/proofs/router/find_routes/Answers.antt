@@ -2,6 +2,7 @@ use mathlib.Core.Path.{_≡_, ap, subst, sym, _∙_}
 use mathlib.Core.List.{List, _∷_, [], _++_, map}
 use Prim.Native.Nat.{ℕ, _+_, _<_, _≤_}
 use native.Mathlib.Omega.{arith}
+use borrow.Author.Needs.{needs}
 use lib.ListN.{length, getD}
 use Rattle.std.specs.Of.Vec.{vec-len, vec-items}
 use Rattle.std.proofs.shelf.Lists.{getD-read-under, map-push}
@@ -11,6 +12,7 @@ use Rattle.flow_theory.specs.Flow.{pathsOrCut}
 use Rattle.flow.specs.Found.{Means}
 use Rattle.coding.specs.Passing.{aimOf, aimsOf}
 use Rattle.planner_theory.specs.Plan.{stopped}
+use Rattle.planner.proofs.Exact.{paths-serve, cut-serves}
 use Rattle.planner.proofs.Routing.{So-far, far-more, far-stop, far-all}
 use Rattle.planner.proofs.router.find_routes.Needs as need
 
@@ -22,12 +24,11 @@ returns-in-Cut c =
     let inside : i < length ps = omega (arith, m .receivers .ok .0, c .len-i-end .ensures) in
     let node : ℕ = c .index-node .result .now in
     let node-is : node ≡ getD ps i 0 = getD-read-under ps i (vec-len (m .receivers)) node 0 (c .index-node .ensures) (omega (arith, c .len-i-end .ensures)) (m .receivers .ok .0) in
-    let exact = subst (λ f. Means f (pathsOrCut (graph (m .network)) (m .rate) node)) (c .in-Cut .is) (c .in-Ok .ensures tt .exact) in (
-      exact .0,
-      far-stop (graph (m .network)) (m .rate) ps (aimsOf (vec-items (c .loop-i .aims))) i (exact .0) inside (ap (pathsOrCut (graph (m .network)) (m .rate)) (sym node-is) ∙ exact .1) (c .loop-i .inv)
-          ∙ ap (λ p. stopped p (exact .0)) (sym node-is),
-      exact .2,
-    )
+    let exact = subst (λ f. Means f (pathsOrCut (graph (m .network)) (m .rate) node)) (c .in-Cut .is) (c .in-Ok .ensures tt .exact) in
+    let stop = far-stop (graph (m .network)) (m .rate) ps (aimsOf (vec-items (c .loop-i .aims))) i (exact .0) inside (ap (pathsOrCut (graph (m .network)) (m .rate)) (sym node-is) ∙ exact .1) (c .loop-i .inv)
+    ∙ ap (λ p. stopped p (exact .0)) (sym node-is) in
+    let long : length (c .in-Cut .side) ≡ 256 = search needs in
+    record { exact = (exact .0, stop, exact .2); serves = cut-serves m node (c .in-Cut .side) (exact .0) long stop (exact .2) }
 
 pub loop-i-again : need.loop-i-again
 loop-i-again c =
@@ -48,4 +49,5 @@ loop-i-again c =
 pub returns : need.returns
 returns c =
     let m = c .args .net .now in
-    far-all (graph (m .network)) (m .rate) (vec-items (m .receivers)) (aimsOf (vec-items (c .loop-i .aims))) (c .loop-i .i) (omega (arith, m .receivers .ok .0, c .len-i-end .ensures)) (c .loop-i .inv)
+    let all = far-all (graph (m .network)) (m .rate) (vec-items (m .receivers)) (aimsOf (vec-items (c .loop-i .aims))) (c .loop-i .i) (omega (arith, m .receivers .ok .0, c .len-i-end .ensures)) (c .loop-i .inv) in
+    record { exact = all; serves = paths-serve m (aimsOf (vec-items (c .loop-i .aims))) all }
