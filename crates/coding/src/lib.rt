@@ -1,4 +1,6 @@
 // Coefficients for all receivers at once over bytes.
+#![tactic(auto)]
+
 mod aim;
 mod choose;
 mod coder;

@@ -1,4 +1,6 @@
 // Networks whose coefficients are worked out: the function here has no other purpose than its contract.
+#![tactic(auto)]
+
 ghost use Rattle.coding_theory.specs.Paths.{Each};
 ghost use Rattle.coding_examples.specs.Table.{Worked, worked};
 

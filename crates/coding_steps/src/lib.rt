@@ -1,4 +1,6 @@
 // The steps by which coefficients are chosen over bytes.
+#![tactic(auto)]
+
 mod carriers;
 mod dual;
 mod lowest;

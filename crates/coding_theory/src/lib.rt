@@ -1,4 +1,6 @@
 // Coefficients for all receivers at once: each function here has no other purpose than its contract, a theorem.
+#![tactic(auto)]
+
 ghost use Rattle.coding_theory.specs.Promise.{AllAtOnce, AsPrescribed};
 
 // Over any field, in any network, the coefficients serve every receiver, as long as there are fewer receivers than elements.

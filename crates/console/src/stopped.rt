@@ -1,5 +1,6 @@
 // Stopping early.
 use std::io;
+use std::process::ExitCode;
 
 // Why a program stops early, once it has said so.
 #[derive(Drop)]
@@ -8,5 +9,13 @@ pub struct Stopped;
 impl From<io::Error> for Stopped {
     fn from(_e: io::Error) -> Stopped {
         Stopped
+    }
+}
+
+// The status that a program ends with. Why it stopped, it has said.
+pub fn status(done: Result<(), Stopped>) -> ExitCode {
+    match done {
+        Ok(()) => ExitCode::SUCCESS,
+        Err(Stopped) => ExitCode::FAILURE,
     }
 }

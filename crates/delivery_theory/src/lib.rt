@@ -1,4 +1,6 @@
 // Whole runs of a net by a plan: each function here has no other purpose than its contract, theorems.
+#![tactic(auto)]
+
 ghost use Rattle.delivery_theory.specs.Promise.{Delivered, FitNames, PlanDelivers, ReadsWhatCame};
 
 // By a plan that serves all receivers each of them puts out every message, in order, whatever the order in which packets arrive.

@@ -1,4 +1,6 @@
 // Paths that share no link, or a cut.
+#![tactic(auto)]
+
 mod augmentation;
 mod decomposition;
 mod finder;

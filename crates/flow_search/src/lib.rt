@@ -1,4 +1,6 @@
 // The links of a network by their ends, and the search for a path over them.
+#![tactic(auto)]
+
 mod adjacency;
 mod breadth_first;
 mod listing;

@@ -1,4 +1,6 @@
 // Paths that share no link, or a cut: how they are found, and what is proved of it. Nothing here runs.
+#![tactic(auto)]
+
 ghost use Rattle.flow_theory.specs.Promise.{FirstFound, NotBoth, OnlyOne, PathsOrCut};
 
 // For every network, number of paths and receiver, either so many paths are found that share no link, or a cut of fewer links.

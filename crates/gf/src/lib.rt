@@ -1,5 +1,7 @@
 // The fields of 256 and of 65,536 elements. Each function here is a theorem: its contract is the statement, and its
 // answer means nothing.
+#![tactic(auto)]
+
 ghost use Rattle.std.specs.Prelude.{ℕ};
 ghost use Rattle.gf.specs.Laws.{IsField};
 ghost use Rattle.gf.specs.Polynomial.{Degree, MulIsRemainder, NoFactors, mul};

@@ -1,4 +1,6 @@
 // Bytes as the field of 256 elements: bytes, packets of bytes, and short vectors of bytes.
+#![tactic(auto)]
+
 mod byte;
 mod inverses;
 mod packet;

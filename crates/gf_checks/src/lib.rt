@@ -1,4 +1,6 @@
 // Tests of the field of bytes against tables.
+#![tactic(auto)]
+
 #[cfg(test)]
 mod tables;
 #[cfg(test)]

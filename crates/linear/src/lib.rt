@@ -1,4 +1,6 @@
 // Linear algebra over any field: each function here has no other purpose than its contract, a theorem.
+#![tactic(auto)]
+
 ghost use Rattle.gf.specs.Field.{Field};
 ghost use Rattle.linear.specs.Choice.{ForbidsAtMostOne, ForbidsNone, SomeLeft, TFound};
 ghost use Rattle.linear.specs.Dual.{InverseIndependent, RenewKeeps, RowsExist, TestDecides, UnitsDual};

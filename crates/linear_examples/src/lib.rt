@@ -1,4 +1,6 @@
 // Worked instances of the theorems on linear algebra: the function here has no other purpose than its contract.
+#![tactic(auto)]
+
 ghost use Rattle.linear_examples.specs.Instances.{Met};
 
 // The premises of the theorems can be met.

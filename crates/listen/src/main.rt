@@ -1,8 +1,11 @@
 // A listener at a place of a net: packets come in on standard input, and the bytes of the messages go to standard output, round by round.
-use console::Stopped;
+#![tactic(auto)]
+
+use console::{Stopped, status};
 use relay_console::{fill, or_stop, read_node, record_length, tell_end, tell_refused};
 use relay_node::{Node, Outcome, Refusal};
 use std::io::{BufReader, BufWriter, Read, Write};
+use std::process::ExitCode;
 use std::{env, io};
 
 // The messages of the rounds that have just ended.
@@ -56,8 +59,8 @@ fn work<R: Read, W: Write>(
     tell_end(rt, "listen", &node, refused)
 }
 
-fn main(rt: HostRuntime) -> Result<(), Stopped> {
-    let mut words = env::args(&rt)?.skip(1);
+fn run(rt: &HostRuntime) -> Result<(), Stopped> {
+    let mut words = env::args(rt)?.skip(1);
     let (Some(net), Some(plan), Some(place), None) = (
         words.next(),
         words.next(),
@@ -68,14 +71,28 @@ fn main(rt: HostRuntime) -> Result<(), Stopped> {
         return Err(Stopped);
     };
     let node = read_node(
-        &rt,
+        rt,
         "listen",
         net.as_str(),
         plan.as_str(),
         place.as_str(),
         true,
     )?;
-    let mut input = BufReader::new(rt.stdin());
-    let mut out = BufWriter::new(rt.stdout());
-    work(&rt, node, &mut input, &mut out)
+    let mut input = or_stop(
+        rt,
+        "listen",
+        "standard input",
+        BufReader::new(rt.alloc(), rt.stdin()),
+    )?;
+    let mut out = or_stop(
+        rt,
+        "listen",
+        "standard output",
+        BufWriter::new(rt.alloc(), rt.stdout()),
+    )?;
+    work(rt, node, &mut input, &mut out)
+}
+
+fn main(rt: HostRuntime) -> ExitCode {
+    status(run(&rt))
 }

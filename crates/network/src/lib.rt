@@ -1,4 +1,6 @@
 // Networks with a rate and receivers, and the bytes in which they are kept.
+#![tactic(auto)]
+
 mod fault;
 mod net;
 mod reader;

@@ -1,4 +1,5 @@
 // Nets as bytes with the answers that the rules of the format give, worked out by hand.
+#![tactic(auto)]
 
 // The answer to some bytes: the number of the fault, 0 for none, and the byte at which its item begins.
 pub struct Case {

@@ -1,4 +1,6 @@
 // Nothing gets across a cut: each function here has no other purpose than its contract, a theorem.
+#![tactic(auto)]
+
 ghost use Rattle.network_cuts.specs.Across.{Alike, NoneReads};
 
 // Behind a cut of fewer than h links, two different messages of h packets give the receiver the same packets, whatever the scheme.

@@ -1,9 +1,12 @@
 // Plans how to send a stream over a net: writes the plan, and prints the ways to each listener, or a cut.
+#![tactic(auto)]
+
 use coding::Aim;
-use console::{Stopped, read_net, replace_file, write_cut, write_line};
+use console::{Stopped, read_net, replace_file, status, write_cut, write_line};
 use network::Network;
 use planner::{Routes, make_plan_with_routes};
 use std::io::{BufWriter, Write};
+use std::process::ExitCode;
 use std::{env, io};
 
 fn write_way<W: Write>(
@@ -49,7 +52,7 @@ fn plan(rt: &HostRuntime, path: &str, target: &str) -> Result<(), Stopped> {
         eprintln!(rt; "plan: {target}: {e}")?;
         return Err(Stopped);
     }
-    let mut out = BufWriter::new(rt.stdout());
+    let mut out = BufWriter::new(rt.alloc(), rt.stdout())?;
     match routes {
         Routes::Paths(aims) => write_ways(&mut out, &net.network, &aims)?,
         Routes::Cut { receiver, side } => write_cut(&mut out, &net.network, receiver, &side)?,
@@ -58,11 +61,15 @@ fn plan(rt: &HostRuntime, path: &str, target: &str) -> Result<(), Stopped> {
     Ok(())
 }
 
-fn main(rt: HostRuntime) -> Result<(), Stopped> {
-    let mut words = env::args(&rt)?.skip(1);
+fn run(rt: &HostRuntime) -> Result<(), Stopped> {
+    let mut words = env::args(rt)?.skip(1);
     let (Some(net), Some(target), None) = (words.next(), words.next(), words.next()) else {
         eprintln!(rt; "usage: plan NET PLAN")?;
         return Err(Stopped);
     };
-    plan(&rt, net.as_str(), target.as_str())
+    plan(rt, net.as_str(), target.as_str())
+}
+
+fn main(rt: HostRuntime) -> ExitCode {
+    status(run(&rt))
 }

@@ -1,4 +1,6 @@
 // The plan of a net.
+#![tactic(auto)]
+
 mod maker;
 mod router;
 mod routes;

@@ -1,3 +1,5 @@
 // Tests of plans against the reference program in tools/reference.
+#![tactic(auto)]
+
 #[cfg(test)]
 mod tests;

@@ -1,4 +1,6 @@
 // The plan of a net, and what is promised of it. Nothing here runs.
+#![tactic(auto)]
+
 ghost use Rattle.planner_theory.specs.Promise.{MainPromise, PlanFits};
 
 // For every accepted net, either every receiver reads every message by the plan's coefficients and rows,

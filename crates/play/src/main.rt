@@ -1,13 +1,16 @@
 // Plays a whole net for a message file: every box and listener, round by round.
+#![tactic(auto)]
+
 ghost use Rattle.std.specs.Prelude.{◌≡◌, ◌*◌, ◌<◌, length, vec_len};
 
-use console::{Stopped, read_net, read_plan, write_cut};
+use console::{Stopped, read_net, read_plan, status, write_cut};
 use network::Multicast;
 use relay_console::fill;
 use relay_node::NodeError;
 use run::{Player, fill_up};
 use std::fs::File;
 use std::io::{BufReader, BufWriter, Read, Write};
+use std::process::ExitCode;
 use std::time::Instant;
 use std::{env, io};
 use wire::Plan;
@@ -122,15 +125,15 @@ fn play(rt: &HostRuntime, net: &Multicast, start: Player, path: &str) -> Result<
         eprintln!(rt; "play: not enough memory")?;
         return Err(Stopped);
     };
-    let mut input = BufReader::new(file);
+    let mut input = BufReader::new(rt.alloc(), file)?;
     let player = play_all(rt, net, start, path, &mut input, &mut has)?;
-    let mut out = BufWriter::new(rt.stdout());
+    let mut out = BufWriter::new(rt.alloc(), rt.stdout())?;
     write_result(&mut out, net, &has, &player.counts)?;
     Ok(())
 }
 
-fn main(rt: HostRuntime) -> Result<(), Stopped> {
-    let mut words = env::args(&rt)?.skip(1);
+fn run_player(rt: &HostRuntime) -> Result<(), Stopped> {
+    let mut words = env::args(rt)?.skip(1);
     let (Some(net_path), Some(plan_path), Some(path), None) = (
         words.next(),
         words.next(),
@@ -140,16 +143,16 @@ fn main(rt: HostRuntime) -> Result<(), Stopped> {
         eprintln!(rt; "usage: play NET PLAN MESSAGE")?;
         return Err(Stopped);
     };
-    let net = read_net(&rt, "play", net_path.as_str())?;
-    let plan = read_plan(&rt, "play", plan_path.as_str(), &net)?;
+    let net = read_net(rt, "play", net_path.as_str())?;
+    let plan = read_plan(rt, "play", plan_path.as_str(), &net)?;
     if let Plan::Unserved { receiver, side } = &plan {
-        let mut out = BufWriter::new(rt.stdout());
+        let mut out = BufWriter::new(rt.alloc(), rt.stdout())?;
         write_cut(&mut out, &net.network, *receiver, side)?;
         out.flush()?;
         return Ok(());
     }
     match Player::new(rt.alloc(), &net, &plan) {
-        Ok(player) => play(&rt, &net, player, path.as_str()),
+        Ok(player) => play(rt, &net, player, path.as_str()),
         Err(NodeError::Memory) => {
             eprintln!(rt; "play: not enough memory")?;
             Err(Stopped)
@@ -159,4 +162,8 @@ fn main(rt: HostRuntime) -> Result<(), Stopped> {
             Err(Stopped)
         }
     }
+}
+
+fn main(rt: HostRuntime) -> ExitCode {
+    status(run_player(&rt))
 }

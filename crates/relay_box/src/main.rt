@@ -1,10 +1,13 @@
 // A box at a place of a net: packets, or at the source messages, come in on standard input, and the packets that it sends go to standard output,
 // or each line's to a file or pipe of its own.
-use console::Stopped;
+#![tactic(auto)]
+
+use console::{Stopped, status};
 use relay_console::{fill, or_stop, read_node, record_length, tell_end, tell_refused};
 use relay_node::{Node, Outcome, PACKET_RECORD_LENGTH, Refusal};
 use std::fs::File;
 use std::io::{BufReader, BufWriter, Read, Stdout, Write};
+use std::process::ExitCode;
 use std::{env, io};
 
 // Where packets go: all to one output, or those over link outs[k] to files[k].
@@ -98,8 +101,8 @@ fn work<R: Read>(
     tell_end(rt, "box", &node, refused)
 }
 
-fn main(rt: HostRuntime) -> Result<(), Stopped> {
-    let mut words = env::args(&rt)?.skip(1);
+fn run(rt: &HostRuntime) -> Result<(), Stopped> {
+    let mut words = env::args(rt)?.skip(1);
     let (Some(net), Some(plan), Some(place)) = (words.next(), words.next(), words.next()) else {
         eprintln!(rt; "usage: box NET PLAN PLACE [--lines DIR]")?;
         return Err(Stopped);
@@ -108,23 +111,31 @@ fn main(rt: HostRuntime) -> Result<(), Stopped> {
     let folder = words.next();
     let more = words.next();
     let node = read_node(
-        &rt,
+        rt,
         "box",
         net.as_str(),
         plan.as_str(),
         place.as_str(),
         false,
     )?;
-    let mut input = BufReader::new(rt.stdin());
+    let mut input = or_stop(
+        rt,
+        "box",
+        "standard input",
+        BufReader::new(rt.alloc(), rt.stdin()),
+    )?;
     let mut outlet = match (option, folder, more) {
-        (None, None, None) => Outlet::Together(BufWriter::new(rt.stdout())),
+        (None, None, None) => {
+            let out = BufWriter::new(rt.alloc(), rt.stdout());
+            Outlet::Together(or_stop(rt, "box", "output", out)?)
+        }
         (Some(option), Some(folder), None) => {
             if option.as_str() != "--lines" {
                 eprintln!(rt; "usage: box NET PLAN PLACE [--lines DIR]")?;
                 return Err(Stopped);
             }
             let name = folder.as_str();
-            match open_lines(&rt, &node, name) {
+            match open_lines(rt, &node, name) {
                 Ok(files) => Outlet::Apart(files),
                 Err(e) => {
                     eprintln!(rt; "box: {name}: {e}")?;
@@ -137,5 +148,9 @@ fn main(rt: HostRuntime) -> Result<(), Stopped> {
             return Err(Stopped);
         }
     };
-    work(&rt, node, &mut input, &mut outlet)
+    work(rt, node, &mut input, &mut outlet)
+}
+
+fn main(rt: HostRuntime) -> ExitCode {
+    status(run(&rt))
 }

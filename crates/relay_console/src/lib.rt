@@ -1,4 +1,6 @@
 // What the programs at the places of a net share: making the node, reading records, telling what is refused.
+#![tactic(auto)]
+
 mod node;
 mod stream;
 

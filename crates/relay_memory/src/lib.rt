@@ -1,4 +1,6 @@
 // The memory of a node: what came in for the round at work and the two that follow, and the rounds that end.
+#![tactic(auto)]
+
 mod links;
 mod outcome;
 mod slots;

@@ -1,4 +1,6 @@
 // Relays and receivers at work on packets of bytes.
+#![tactic(auto)]
+
 mod links;
 mod node;
 mod node_error;

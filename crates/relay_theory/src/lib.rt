@@ -1,4 +1,6 @@
 // One relay or receiver, round by round: each function here has no other purpose than its contract, a theorem.
+#![tactic(auto)]
+
 ghost use Rattle.std.specs.Prelude.{List};
 ghost use Rattle.network_cuts.specs.Scheme.{Packet};
 ghost use Rattle.relay_theory.specs.Law.{Begins, Lawful};

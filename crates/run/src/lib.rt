@@ -1,4 +1,6 @@
 // A whole net at work: messages are played over its nodes, one after the other.
+#![tactic(auto)]
+
 mod hear;
 mod make;
 mod padding;

@@ -1,4 +1,6 @@
 // Relays and receivers at work in a whole network, whatever the order in which packets arrive: each function here has no other purpose than its contract, theorems.
+#![tactic(auto)]
+
 ghost use Rattle.run_theory.specs.Promise.{AllOut, CanArrive, EachArrived, FewArrivals, MayBegin, MessagesThemselves, NoneRefused, OnceOnly, Prompt, PutOut, UnderWay, Whereabouts};
 
 // What is under way, and what receivers have put out, is what the synchronous network has.

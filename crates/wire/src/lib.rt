@@ -1,4 +1,6 @@
 // Plans, and the bytes in which they are kept.
+#![tactic(auto)]
+
 mod fault;
 mod plan;
 mod reader;

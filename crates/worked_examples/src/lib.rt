@@ -1,4 +1,6 @@
 // Worked examples of the definitions: one table, and that each of its rows holds.
+#![tactic(auto)]
+
 ghost use Rattle.worked_examples.specs.Table.{Every, Holds, table};
 
 pub fn worked_examples_hold() -> u8
