@@ -3,5 +3,5 @@ use Rattle.octets.proofs.put_word.Goals as goal
 
 pub returns : goal.returns
 returns c =
-    c.in-ok-push-2.ensures.items ∙ ap (λ l. l ++ c.args.x % 256 ∷ []) c.in-ok-push.ensures.items
+    c.in_ok-push-2.ensures.items ∙ ap (λ l. l ++ c.args.x % 256 ∷ []) c.in_ok-push.ensures.items
     ∙ append_assoc (vec_items c.args.out.now) (c.args.x / 256 ∷ []) (c.args.x % 256 ∷ [])

@@ -8,7 +8,7 @@ pub loop-word-preserved : goal.loop-word-preserved
 loop-word-preserved c =
     let i : ℕ = c.loop-word.word-index in
     let words : List ℕ = c.args.words.now in
-    c.in-ok-put-word.ensures ∙ ap (λ l. l ++ word_bytes (get_or words i 0)) c.loop-word.invariant
+    c.in_ok-put_word.ensures ∙ ap (λ l. l ++ word_bytes (get_or words i 0)) c.loop-word.invariant
     ∙ flat_map_more word_bytes (vec_items c.args.out.now) (take i words) (get_or words i 0)
     ∙ ap (λ l. vec_items c.args.out.now ++ flat_map word_bytes l) (sym (take_more words i 0 c.loop-word-test.true))
 

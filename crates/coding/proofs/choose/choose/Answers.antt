@@ -33,19 +33,19 @@ loop-i-init c =
     let z = c.args.network.now in
     let e = length c.args.vectors.now in
     let got = MatchOption-at_some (32 < c.args.h) (λ v. (v.count ≡ c.args.h) × (v.bytes ≡ replicate 32 0)) c.unwrap-vector.result c.unwrap-vector.ensures c.zero.ensures in
-    let begun = turn-none (graph z) (sound z) c.args.h (aims_of c.args.aims.now) c.requires.served e (omega (arith, links-long z, c.requires.link)) (vec_items c.in-ok-names.names) c.index-node.result.now
-    (node-is z e c.index-node.result.now c.requires.link c.index-node.ensures) c.in-ok-names.ensures c.unwrap-vector.result got.0 got.1 in
-    subst (λ cs. Turn (graph z) c.args.h (aims_of c.args.aims.now) e 0 cs c.unwrap-vector.result (vec_items c.new-rows.result)) (sym (c.in-ok-coefficients.ensures.items-if-clones-equal (λ y q. q) ∙ ap (λ n. replicate n 0) (c.len.ensures ∙ c.in-ok-names.names.ok.0)))
-    (subst (λ rows. Turn (graph z) c.args.h (aims_of c.args.aims.now) e 0 (replicate (length (vec_items c.in-ok-names.names)) 0) c.unwrap-vector.result rows) (sym c.new-rows.ensures.items) begun)
+    let begun = turn-none (graph z) (sound z) c.args.h (aims_of c.args.aims.now) c.requires.served e (omega (arith, links-long z, c.requires.link)) (vec_items c.in_ok-names.names) c.index-node.result.now
+    (node-is z e c.index-node.result.now c.requires.link c.index-node.ensures) c.in_ok-names.ensures c.unwrap-vector.result got.0 got.1 in
+    subst (λ cs. Turn (graph z) c.args.h (aims_of c.args.aims.now) e 0 cs c.unwrap-vector.result (vec_items c.new-rows.result)) (sym (c.in_ok-coefficients.ensures.items-if-clones-equal (λ y q. q) ∙ ap (λ n. replicate n 0) (c.len.ensures ∙ c.in_ok-names.names.ok.0)))
+    (subst (λ rows. Turn (graph z) c.args.h (aims_of c.args.aims.now) e 0 (replicate (length (vec_items c.in_ok-names.names)) 0) c.unwrap-vector.result rows) (sym c.new-rows.ensures.items) begun)
 
-pub offset-bounds-receivers-i : goal.offset-bounds-receivers-i
-offset-bounds-receivers-i c = omega (arith, c.requires.served.few, length-map c.args.aims.now aim_of)
+pub offset_bounds-receivers-i : goal.offset_bounds-receivers-i
+offset_bounds-receivers-i c = omega (arith, c.requires.served.few, length-map c.args.aims.now aim_of)
 
 pub bounds-receivers-i : goal.bounds-receivers-i
 bounds-receivers-i c = omega (arith, c.requires.state.all, length-map c.args.aims.now aim_of)
 
-pub vector-of-added-requires : goal.vector-of-added-requires
-vector-of-added-requires c =
+pub vector_of-added-requires : goal.vector_of-added-requires
+vector_of-added-requires c =
     let z = c.args.network.now in
     let as' = c.args.aims.now in
     let e = length c.args.vectors.now in
@@ -57,7 +57,7 @@ vector-of-added-requires c =
           i (omega (arith, length-map as' aim_of)) (start c.args.h (aim_of c.index-aims-i.result)) (aim_of c.index-aims-i.result) c.place-j.result
           (place_is as' i e c.place-j.result c.index-aims-i.result c.loop-i-test.true (c.place-j.ensures ∙ ap (λ q. place e (map vec_items q)) c.deref.ensures.value))
           c.index-receivers-i.result c.index-receivers-i.is c.if-j-h.true (vec_items c.loop-i.coefficients) c.loop-i.vector (vec_items c.loop-i.rows) c.loop-i.invariant node (node-is z e node c.requires.link c.index-node.ensures)
-          (vec_items c.in-ok-names.names) c.in-ok-names.ensures c.row-of.result c.row-of.ensures.value c.name-of-name.result c.name-of-name.ensures;
+          (vec_items c.in_ok-names.names) c.in_ok-names.ensures c.row_of.result c.row_of.ensures.value c.name_of-name.result c.name_of-name.ensures;
     }
 
 pub serve-requires : goal.serve-requires
@@ -67,8 +67,8 @@ serve-requires c =
     let e = length c.args.vectors.now in
     let i = c.loop-i.i in
     let node = c.index-node.result.now in
-    let x = c.row-of.result in
-    let rows : c.deref-then-j-h.result.now ≡ vec_items c.loop-i.rows ++ x ∷ [] = c.deref-then-j-h.ensures.value ∙ c.in-ok-push.ensures.items in
+    let x = c.row_of.result in
+    let rows : c.deref-then-j-h.result.now ≡ vec_items c.loop-i.rows ++ x ∷ [] = c.deref-then-j-h.ensures.value ∙ c.in_ok-push.ensures.items in
     let at_place = place_is as' i e c.place-j.result c.index-aims-i.result c.loop-i-test.true (c.place-j.ensures ∙ ap (λ q. place e (map vec_items q)) c.deref.ensures.value) in
     record {
       counted = (
@@ -76,22 +76,22 @@ serve-requires c =
             (turn-counted (graph z) (sound z) c.args.h (aims_of as') c.requires.served e (omega (arith, links-long z, c.requires.link)) c.args.vectors.now c.args.receivers.now c.requires.state
             i (omega (arith, length-map as' aim_of)) (start c.args.h (aim_of c.index-aims-i.result)) (aim_of c.index-aims-i.result) c.place-j.result at_place
             c.index-receivers-i.result c.index-receivers-i.is c.if-j-h.true (vec_items c.loop-i.coefficients) c.loop-i.vector (vec_items c.loop-i.rows) c.loop-i.invariant node (node-is z e node c.requires.link c.index-node.ensures)
-            (vec_items c.in-ok-names.names) c.in-ok-names.ensures x c.row-of.ensures.value c.name-of-name.result c.name-of-name.ensures c.vector-of-added.result c.vector-of-added.ensures.bytes),
-        c.vector-of-added.ensures.count ∙ sym c.loop-i.invariant.count,
+            (vec_items c.in_ok-names.names) c.in_ok-names.ensures x c.row_of.ensures.value c.name_of-name.result c.name_of-name.ensures c.vector_of-added.result c.vector_of-added.ensures.bytes),
+        c.vector_of-added.ensures.count ∙ sym c.loop-i.invariant.count,
       );
       some = omega (arith, ap length rows, length-append (vec_items c.loop-i.rows) (x ∷ []));
-      level = ap length c.deref-mut.ensures.value
+      level = ap length c.deref_mut.ensures.value
           ∙ turn_level (graph z) (sound z) c.args.h (aims_of as') c.requires.served e (omega (arith, links-long z, c.requires.link)) c.args.vectors.now c.args.receivers.now c.requires.state
           i (omega (arith, length-map as' aim_of)) (start c.args.h (aim_of c.index-aims-i.result)) (aim_of c.index-aims-i.result) c.place-j.result at_place
           c.index-receivers-i.result c.index-receivers-i.is c.if-j-h.true (vec_items c.loop-i.coefficients) c.loop-i.vector (vec_items c.loop-i.rows) c.loop-i.invariant node (node-is z e node c.requires.link c.index-node.ensures)
-          (vec_items c.in-ok-names.names) c.in-ok-names.ensures x c.row-of.ensures.value c.name-of-name.result c.name-of-name.ensures
+          (vec_items c.in_ok-names.names) c.in_ok-names.ensures x c.row_of.ensures.value c.name_of-name.result c.name_of-name.ensures
           ∙ sym (ap length c.deref-then-j-h-2.ensures.value);
       found = subst (λ q. dot byte_field c.loop-i.vector.count (last_of (bytes_of q)) c.loop-i.vector.bytes ≡ 0
-          → lowest (all_served (map (product_of c.loop-i.vector.count c.loop-i.vector.bytes c.vector-of-added.result.bytes) (bytes_of q))) 255 1 < 256) (sym rows)
+          → lowest (all_served (map (product_of c.loop-i.vector.count c.loop-i.vector.bytes c.vector_of-added.result.bytes) (bytes_of q))) 255 1 < 256) (sym rows)
           (turn-found (graph z) (sound z) c.args.h (aims_of as') c.requires.served e (omega (arith, links-long z, c.requires.link)) c.args.vectors.now c.args.receivers.now c.requires.state
           i (omega (arith, length-map as' aim_of)) (start c.args.h (aim_of c.index-aims-i.result)) (aim_of c.index-aims-i.result) c.place-j.result at_place
           c.index-receivers-i.result c.index-receivers-i.is c.if-j-h.true (vec_items c.loop-i.coefficients) c.loop-i.vector (vec_items c.loop-i.rows) c.loop-i.invariant node (node-is z e node c.requires.link c.index-node.ensures)
-          (vec_items c.in-ok-names.names) c.in-ok-names.ensures x c.row-of.ensures.value c.name-of-name.result c.name-of-name.ensures c.vector-of-added.result c.vector-of-added.ensures.bytes);
+          (vec_items c.in_ok-names.names) c.in_ok-names.ensures x c.row_of.ensures.value c.name_of-name.result c.name_of-name.ensures c.vector_of-added.result c.vector_of-added.ensures.bytes);
     }
 
 pub loop-i-preserved : goal.loop-i-preserved
@@ -105,24 +105,24 @@ loop-i-preserved c =
     elim c.if-j-h.branch [
       | then-j-h+in-ok-push+in-ok-serve w ↦
           let node = c.index-node.result.now in
-          let x = w.row-of.result in
-          let rows : w.deref-then-j-h.result.now ≡ vec_items c.loop-i.rows ++ x ∷ [] = w.deref-then-j-h.ensures.value ∙ w.in-ok-push.ensures.items in
-          let given : Extended (bytes_of w.deref-then-j-h.result.now) w.vector-of-added.result.bytes (trial_of w.name-of-name.result w.deref-then-j-h-2.result.now) w.deref-mut.result.now c.loop-i.vector w.serve.new.coefficients w.serve.new.vector =
-          w.in-ok-serve.ensures in
-          let extended : Extended (bytes_of (vec_items c.loop-i.rows ++ x ∷ [])) w.vector-of-added.result.bytes (trial_of w.name-of-name.result (vec_items c.in-ok-names.names)) (vec_items c.loop-i.coefficients) c.loop-i.vector w.serve.new.coefficients w.serve.new.vector =
-          subst (λ q. Extended (bytes_of q) w.vector-of-added.result.bytes (trial_of w.name-of-name.result (vec_items c.in-ok-names.names)) (vec_items c.loop-i.coefficients) c.loop-i.vector w.serve.new.coefficients w.serve.new.vector) rows
-          (subst (λ q. Extended (bytes_of w.deref-then-j-h.result.now) w.vector-of-added.result.bytes (trial_of w.name-of-name.result q) (vec_items c.loop-i.coefficients) c.loop-i.vector w.serve.new.coefficients w.serve.new.vector) w.deref-then-j-h-2.ensures.value
-          (subst (λ q. Extended (bytes_of w.deref-then-j-h.result.now) w.vector-of-added.result.bytes (trial_of w.name-of-name.result w.deref-then-j-h-2.result.now) q c.loop-i.vector w.serve.new.coefficients w.serve.new.vector) w.deref-mut.ensures.value given)) in
+          let x = w.row_of.result in
+          let rows : w.deref-then-j-h.result.now ≡ vec_items c.loop-i.rows ++ x ∷ [] = w.deref-then-j-h.ensures.value ∙ w.in_ok-push.ensures.items in
+          let given : Extended (bytes_of w.deref-then-j-h.result.now) w.vector_of-added.result.bytes (trial_of w.name_of-name.result w.deref-then-j-h-2.result.now) w.deref_mut.result.now c.loop-i.vector w.serve.new.coefficients w.serve.new.vector =
+          w.in_ok-serve.ensures in
+          let extended : Extended (bytes_of (vec_items c.loop-i.rows ++ x ∷ [])) w.vector_of-added.result.bytes (trial_of w.name_of-name.result (vec_items c.in_ok-names.names)) (vec_items c.loop-i.coefficients) c.loop-i.vector w.serve.new.coefficients w.serve.new.vector =
+          subst (λ q. Extended (bytes_of q) w.vector_of-added.result.bytes (trial_of w.name_of-name.result (vec_items c.in_ok-names.names)) (vec_items c.loop-i.coefficients) c.loop-i.vector w.serve.new.coefficients w.serve.new.vector) rows
+          (subst (λ q. Extended (bytes_of w.deref-then-j-h.result.now) w.vector_of-added.result.bytes (trial_of w.name_of-name.result q) (vec_items c.loop-i.coefficients) c.loop-i.vector w.serve.new.coefficients w.serve.new.vector) w.deref-then-j-h-2.ensures.value
+          (subst (λ q. Extended (bytes_of w.deref-then-j-h.result.now) w.vector_of-added.result.bytes (trial_of w.name_of-name.result w.deref-then-j-h-2.result.now) q c.loop-i.vector w.serve.new.coefficients w.serve.new.vector) w.deref_mut.ensures.value given)) in
           let done = turn_more (graph z) (sound z) h (aims_of as') c.requires.served e (omega (arith, links-long z, c.requires.link)) c.args.vectors.now c.args.receivers.now c.requires.state
           i (omega (arith, length-map as' aim_of)) (start h (aim_of c.index-aims-i.result)) (aim_of c.index-aims-i.result) c.place-j.result at_place
           w.index-receivers-i.result w.index-receivers-i.is w.if-j-h.true (vec_items c.loop-i.coefficients) c.loop-i.vector (vec_items c.loop-i.rows) c.loop-i.invariant node (node-is z e node c.requires.link c.index-node.ensures)
-          (vec_items c.in-ok-names.names) c.in-ok-names.ensures x w.row-of.ensures.value w.name-of-name.result w.name-of-name.ensures w.vector-of-added.result w.vector-of-added.ensures.bytes
+          (vec_items c.in_ok-names.names) c.in_ok-names.ensures x w.row_of.ensures.value w.name_of-name.result w.name_of-name.ensures w.vector_of-added.result w.vector_of-added.ensures.bytes
           w.serve.new.coefficients w.serve.new.vector extended in
           subst (λ q. Turn (graph z) h (aims_of as') e (i + 1) (vec_items q) c.if-j-h.vector (vec_items c.if-j-h.rows)) (sym w.coefficients-is)
-          (subst (λ q. Turn (graph z) h (aims_of as') e (i + 1) q c.if-j-h.vector (vec_items c.if-j-h.rows)) (sym (with_items_is c.loop-i.coefficients w.serve.new.coefficients (omega (arith, w.serve.auto.coefficients, w.deref-mut.ensures.len))))
+          (subst (λ q. Turn (graph z) h (aims_of as') e (i + 1) q c.if-j-h.vector (vec_items c.if-j-h.rows)) (sym (with_items_is c.loop-i.coefficients w.serve.new.coefficients (omega (arith, w.serve.auto.coefficients, w.deref_mut.ensures.len))))
           (subst (λ q. Turn (graph z) h (aims_of as') e (i + 1) w.serve.new.coefficients q (vec_items c.if-j-h.rows)) (sym w.vector-is)
           (subst (λ q. Turn (graph z) h (aims_of as') e (i + 1) w.serve.new.coefficients w.serve.new.vector (vec_items q)) (sym w.rows-is)
-          (subst (λ q. Turn (graph z) h (aims_of as') e (i + 1) w.serve.new.coefficients w.serve.new.vector q) (sym w.in-ok-push.ensures.items) done))))
+          (subst (λ q. Turn (graph z) h (aims_of as') e (i + 1) w.serve.new.coefficients w.serve.new.vector q) (sym w.in_ok-push.ensures.items) done))))
       | else-j-h w ↦
           subst (λ q. Turn (graph z) h (aims_of as') e (i + 1) (vec_items q) c.if-j-h.vector (vec_items c.if-j-h.rows)) (sym w.coefficients-is)
           (subst (λ q. Turn (graph z) h (aims_of as') e (i + 1) (vec_items c.loop-i.coefficients) q (vec_items c.if-j-h.rows)) (sym w.vector-is)

@@ -7,16 +7,16 @@ use Rattle.coding.proofs.decoders.column.Goals as goal
 
 pub loop-j-init : goal.loop-j-init
 unfolding table
-loop-j-init c = c.in-ok-column.ensures.items
+loop-j-init c = c.in_ok-column.ensures.items
 
 pub loop-j-preserved : goal.loop-j-preserved
 loop-j-preserved c =
     let rows = c.args.receiver.now.rows in
     let j = c.loop-j.j in
-    let l : j < length rows = omega (arith, c.row-of.ensures.long, c.requires) in
-    c.in-ok-push.ensures.items
+    let l : j < length rows = omega (arith, c.row_of.ensures.long, c.requires) in
+    c.in_ok-push.ensures.items
     ∙ ap₂ (λ q y. q ++ y ∷ []) c.loop-j.invariant
-    (c.at.ensures ∙ ap (λ x. at x.bytes c.args.k) c.row-of.ensures.value ∙ ap (λ q. at q c.args.k) (sym (bytes-at rows j c.row-of.result l)))
+    (c.at.ensures ∙ ap (λ x. at x.bytes c.args.k) c.row_of.ensures.value ∙ ap (λ q. at q c.args.k) (sym (bytes-at rows j c.row_of.result l)))
     ∙ sym (table-push j (λ j. at (row (bytes_of rows) j) c.args.k))
 
 pub returns : goal.returns

@@ -7,12 +7,12 @@ use Rattle.coding.proofs.decoders.columns.Goals as goal
 
 pub loop-k-init : goal.loop-k-init
 unfolding table
-loop-k-init c = ap (map vec_items) c.in-ok-columns.ensures.items
+loop-k-init c = ap (map vec_items) c.in_ok-columns.ensures.items
 
 pub loop-k-preserved : goal.loop-k-preserved
 loop-k-preserved c =
-    ap (map vec_items) c.in-ok-push.ensures.items ∙ map-append vec_items (vec_items c.loop-k.columns) _
-    ∙ ap₂ (λ q y. q ++ y ∷ []) c.loop-k.invariant c.in-ok-column.ensures
+    ap (map vec_items) c.in_ok-push.ensures.items ∙ map-append vec_items (vec_items c.loop-k.columns) _
+    ∙ ap₂ (λ q y. q ++ y ∷ []) c.loop-k.invariant c.in_ok-column.ensures
     ∙ sym (table-push c.loop-k.k (λ k. table c.args.h (λ j. at (row (bytes_of c.args.receiver.now.rows) j) k)))
 
 pub returns : goal.returns

@@ -26,12 +26,12 @@ more h ps ds ds' i p₀ x li ld e leaves before = (
 )
 
 pub loop-i-init : goal.loop-i-init
-loop-i-init c = (ap length c.in-ok-decoders.ensures.items, λ n p d l. absurd (omega arith))
+loop-i-init c = (ap length c.in_ok-decoders.ensures.items, λ n p d l. absurd (omega arith))
 
 pub loop-i-preserved : goal.loop-i-preserved
 loop-i-preserved c =
-    more c.args.h c.args.receivers.now (vec_items c.loop-i.decoders) (vec_items c.push.new.self) c.loop-i.i c.index-receivers-i.result _ c.loop-i-test.true c.loop-i.invariant.0 c.in-ok-push.ensures.items
-    (subst (λ y. Leaves c.args.h y c.in-ok-decoder.field-0) c.index-receivers-i.is c.in-ok-decoder.ensures) c.loop-i.invariant.1
+    more c.args.h c.args.receivers.now (vec_items c.loop-i.decoders) (vec_items c.push.new.self) c.loop-i.i c.index-receivers-i.result _ c.loop-i-test.true c.loop-i.invariant.0 c.in_ok-push.ensures.items
+    (subst (λ y. Leaves c.args.h y c.in_ok-decoder.field-0) c.index-receivers-i.is c.in_ok-decoder.ensures) c.loop-i.invariant.1
 
 pub returns : goal.returns
 returns c =

@@ -4,4 +4,4 @@ use Rattle.coding.proofs.start.start.Goals as goal
 
 pub returns : goal.returns
 returns c = λ a.
-    record { long = omega (arith, c.requires); counted = c.unit-rows.ensures.counted; rows = c.unit-rows.ensures.units; links = λ j l. inl (start-current c.args.h a j l) }
+    record { long = omega (arith, c.requires); counted = c.unit_rows.ensures.counted; rows = c.unit_rows.ensures.units; links = λ j l. inl (start-current c.args.h a j l) }

@@ -5,10 +5,10 @@ use Rattle.coding.specs.State.{Begun}
 use Rattle.coding.proofs.start.start_all.Goals as goal
 
 pub loop-init : goal.loop-init
-loop-init c = c.in-ok-receivers.ensures.items
+loop-init c = c.in_ok-receivers.ensures.items
 
 pub loop-preserved : goal.loop-preserved
-loop-preserved c = c.in-ok-push.ensures.items ∙ ap (λ q. q ++ c.start-first.result ∷ []) c.loop.invariant ∙ replicate_more c.loop.counter c.start-first.result
+loop-preserved c = c.in_ok-push.ensures.items ∙ ap (λ q. q ++ c.start-first.result ∷ []) c.loop.invariant ∙ replicate_more c.loop.counter c.start-first.result
 
 pub returns : goal.returns
 returns c =

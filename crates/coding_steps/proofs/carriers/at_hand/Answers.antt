@@ -10,4 +10,4 @@ returns-then-node-eq0 c =
 
 pub returns-else-node-eq0 : goal.returns-else-node-eq0
 returns-else-node-eq0 c =
-    IfOk-weaker c.links-into.result _ _ (λ v e. elsewhere c.args.h c.args.node (take c.args.e (graph c.args.network.now).links) (vec_items v) c.if-node-eq0.false e) c.links-into.ensures
+    IfOk-weaker c.links_into.result _ _ (λ v e. elsewhere c.args.h c.args.node (take c.args.e (graph c.args.network.now).links) (vec_items v) c.if-node-eq0.false e) c.links_into.ensures

@@ -23,7 +23,7 @@ loop-k-preserved c =
     elim c.if-index-node.branch [
       | then-index-node+in-ok-push w ↦
           rw w.names-is
-          (ap (map link) w.in-ok-push.ensures.items ∙ into-here c.args.node ls k lk (vec_items c.loop-k.names) c.loop-k.invariant (to ∙ w.if-index-node.true))
+          (ap (map link) w.in_ok-push.ensures.items ∙ into-here c.args.node ls k lk (vec_items c.loop-k.names) c.loop-k.invariant (to ∙ w.if-index-node.true))
       | else-index-node w ↦ rw w.names-is (into-there c.args.node ls k lk (vec_items c.loop-k.names) c.loop-k.invariant (λ e. w.if-index-node.false (sym to ∙ e)))
     ]
 

@@ -29,7 +29,7 @@ loop-i-preserved c =
     let product = dot-is h j v rows c.requires.counted.0 long c.requires.place.1 lj c.requires.counted.1 in
     let first = c.dot.ensures ∙ product j c.index-rows-j.result lj in
     let by : c.inverse-by.result ≡ inverse byte_field (dot byte_field h (row (bytes_of rows) j) v.bytes) =
-    inverse-is c.dot.result c.inverse-by.result (omega (arith, c.requires.served)) c.dot.type-inv c.inverse-by.type-inv c.inverse-by.ensures ∙ ap (inverse byte_field) first in
+    inverse-is c.dot.result c.inverse-by.result (omega (arith, c.requires.served)) c.dot.type_inv c.inverse-by.type_inv c.inverse-by.ensures ∙ ap (inverse byte_field) first in
     let counted : new.count ≡ h = c.scaled-new.ensures.count ∙ sym (count_at rows j c.index-rows-j-2.result (omega arith)) ∙ c.requires.counted.0 j lj in
     elim c.if-i-j.branch [
       | then-i-j w ↦

@@ -8,7 +8,7 @@ use Rattle.coding_steps.proofs.Extension.{map_more}
 use Rattle.coding_steps.proofs.serving.products.Goals as goal
 
 pub loop-row-init : goal.loop-row-init
-loop-row-init c = c.in-ok-products.ensures.items
+loop-row-init c = c.in_ok-products.ensures.items
 
 pub loop-row-preserved : goal.loop-row-preserved
 loop-row-preserved c =
@@ -21,7 +21,7 @@ loop-row-preserved c =
     let counted : x.count ≡ v.count = ap (λ y. y.count) c.row-item.is ∙ sym (count_at rows i x c.loop-row-test.true) ∙ c.requires.counted.0 i c.loop-row-test.true in
     let pair : ◌≡◌ {A = Product} (record { before = c.dot.result; added = c.dot-in-loop-row.result }) (p x.bytes) =
     ap₂ (λ a b. record { before = a; added = b }) (c.dot.ensures ∙ product_is v.count x v counted refl) (c.dot-in-loop-row.ensures ∙ product_is v.count x u counted c.requires.counted.1) in
-    c.in-ok-push.ensures.items
+    c.in_ok-push.ensures.items
     ∙ ap₂ (λ a b. a ++ b ∷ []) c.loop-row.invariant pair
     ∙ sym (ap (map p) (map_more (λ y. y.bytes) rows i x c.loop-row-test.true c.row-item.is) ∙ map-append p (bytes_of (take i rows)) (x.bytes ∷ []))
 

@@ -25,23 +25,23 @@ returns-then-dot-ne0 c =
     let e = last-is c.args.rows.now c.args.vector.now c.index-rows-rows.result c.dot.result c.requires.counted.0 c.requires.some c.index-rows-rows.is c.dot.ensures in
     record { served = λ ne. (refl, refl); added = λ z. absurd (c.if-dot-ne0.true (e ∙ z)) }
 
-pub lowest-serving-t-requires : goal.lowest-serving-t-requires
-lowest-serving-t-requires c =
+pub lowest_serving-t-requires : goal.lowest_serving-t-requires
+lowest_serving-t-requires c =
     let e = last-is c.args.rows.now c.args.vector.now c.index-rows-rows.result c.dot.result c.requires.counted.0 c.requires.some c.index-rows-rows.is c.dot.ensures in
-    subst (λ ps. lowest (all_served ps) 255 1 < 256) (sym (c.deref.ensures.value ∙ c.in-ok-products.ensures)) (c.requires.found (sym e ∙ c.if-dot-ne0.false))
+    subst (λ ps. lowest (all_served ps) 255 1 < 256) (sym (c.deref.ensures.value ∙ c.in_ok-products.ensures)) (c.requires.found (sym e ∙ c.if-dot-ne0.false))
 
 pub returns : goal.returns
 returns c =
     let v = c.args.vector.now in
     let u = c.args.added in
     let e = last-is c.args.rows.now v c.index-rows-rows.result c.dot.result c.requires.counted.0 c.requires.some c.index-rows-rows.is c.dot.ensures in
-    let t : c.lowest-serving-t.result ≡ lowest (all_served (map (product_of v.count v.bytes u.bytes) (bytes_of c.args.rows.now))) 255 1 =
-    c.lowest-serving-t.ensures ∙ ap (λ ps. lowest (all_served ps) 255 1) (c.deref.ensures.value ∙ c.in-ok-products.ensures) in
+    let t : c.lowest_serving-t.result ≡ lowest (all_served (map (product_of v.count v.bytes u.bytes) (bytes_of c.args.rows.now))) 255 1 =
+    c.lowest_serving-t.ensures ∙ ap (λ ps. lowest (all_served ps) 255 1) (c.deref.ensures.value ∙ c.in_ok-products.ensures) in
     record {
       served = λ ne. absurd (ne (sym e ∙ c.if-dot-ne0.false));
-      added = λ z. subst (λ n. Added n u.bytes (trial_of c.args.name c.args.names.now) c.args.coefficients.now v c.add-at.new.coefficients c.plus.result) t
+      added = λ z. subst (λ n. Added n u.bytes (trial_of c.args.name c.args.names.now) c.args.coefficients.now v c.add_at.new.coefficients c.plus.result) t
           (record {
-            coefficients = c.add-at.ensures;
+            coefficients = c.add_at.ensures;
             count = omega (arith, c.plus.ensures.count, c.scaled.ensures.count, c.requires.counted.1);
             bytes = λ x l. c.plus.ensures.bytes x l ∙ ap (bit_xor _) (c.scaled.ensures.bytes x l);
           });

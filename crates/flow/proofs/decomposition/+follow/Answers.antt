@@ -14,16 +14,16 @@ returns-then-node-receiver t c =
     let e = ended us (vec_items c.args.path.now) _ (follow-here (graph c.args.network.now).links c.args.receiver c.args.node us (used_count us) c.if-node-receiver.true) in
     record { path = e.0; used = e.1 }
 
-pub first-used-requires : goal.first-used-requires
-first-used-requires t c j l =
+pub first_used-requires : goal.first_used-requires
+first_used-requires t c j l =
     let z = c.args.network.now in
     omega (arith, row_below _ c.args.node _ _ (c.row.ensures ∙ c.requires.adjoins.out.row _ c.requires.node) j l, links-long z, c.requires.level)
 
-pub returns-in-default : goal.returns-in-default
-returns-in-default t c =
+pub returns-in_default : goal.returns-in_default
+returns-in_default t c =
     let us = c.args.used.now in
     let row = c.row.ensures ∙ c.requires.adjoins.out.row _ c.requires.node in
-    let e = ended us (vec_items c.args.path.now) _ (follow-none (graph c.args.network.now).links c.args.receiver c.args.node us (used_count us) (ap (flagged us true) (sym row) ∙ c.in-default.ensures)) in
+    let e = ended us (vec_items c.args.path.now) _ (follow-none (graph c.args.network.now).links c.args.receiver c.args.node us (used_count us) (ap (flagged us true) (sym row) ∙ c.in_default.ensures)) in
     record { path = e.0; used = e.1 }
 
 pub bounds-used-link : goal.bounds-used-link
@@ -59,6 +59,6 @@ returns t c =
     let on = follow-on ls c.args.receiver c.args.node us k out.0 c.if-node-receiver.false out.1
     ∙ ap (λ x. k ∷ follow ls c.args.receiver (used_count (set us k false)) x (set us k false)) (sym end) in
     record {
-      path = made-map c.follow.result _ _ (λ _ h. path-on k (vec_items c.args.path.now) (vec_items c.push.new.self) _ _ _ on c.in-ok-push.ensures.items h) c.follow.ensures.path;
+      path = made-map c.follow.result _ _ (λ _ h. path-on k (vec_items c.args.path.now) (vec_items c.push.new.self) _ _ _ on c.in_ok-push.ensures.items h) c.follow.ensures.path;
       used = made-map c.follow.result _ _ (λ _ h. used-on us _ k _ _ used on h) c.follow.ensures.used;
     }

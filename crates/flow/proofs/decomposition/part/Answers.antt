@@ -14,9 +14,9 @@ loop-preserved c =
     let old = map vec_items (vec_items c.loop.paths) in
     let path : List ℕ = vec_items c.follow.new.path in
     c.loop.invariant ∙ ap (λ x. old ++ parted ls p x c.loop.used) left
-    ∙ ap (λ x. old ++ x) (parted-more ls p m c.loop.used c.follow.new.used path (c.in-ok-follow.ensures.path ∙ ap (λ x. x ++ follow ls p (used_count c.loop.used) 0 c.loop.used) c.new-path.ensures.items) c.in-ok-follow.ensures.used)
+    ∙ ap (λ x. old ++ x) (parted-more ls p m c.loop.used c.follow.new.used path (c.in_ok-follow.ensures.path ∙ ap (λ x. x ++ follow ls p (used_count c.loop.used) 0 c.loop.used) c.new-path.ensures.items) c.in_ok-follow.ensures.used)
     ∙ sym (append_assoc old (path ∷ []) (parted ls p m c.follow.new.used))
-    ∙ ap (λ x. x ++ parted ls p m c.follow.new.used) (sym (ap (map vec_items) c.in-ok-push.ensures.items ∙ map_push vec_items (vec_items c.loop.paths) c.follow.new.path))
+    ∙ ap (λ x. x ++ parted ls p m c.follow.new.used) (sym (ap (map vec_items) c.in_ok-push.ensures.items ∙ map_push vec_items (vec_items c.loop.paths) c.follow.new.path))
 
 pub returns : goal.returns
 unfolding parted

@@ -5,8 +5,8 @@ use Rattle.flow.proofs.Served.{none-used, found-cut, found-paths}
 use Rattle.flow.proofs.finder.find.Goals as goal
 
 pub returns-in-Some : goal.returns-in-Some
-returns-in-Some c = found-cut (graph c.args.network.now) c.args.h c.args.receiver _ _ (none-used c.args.network.now c.len.result c.len.ensures) _ c.in-ok-reached.ensures c.in-Some.reached c.in-Some.is
+returns-in-Some c = found-cut (graph c.args.network.now) c.args.h c.args.receiver _ _ (none-used c.args.network.now c.len.result c.len.ensures) _ c.in_ok-reached.ensures c.in-Some.reached c.in-Some.is
 
-pub returns-in-ok-part : goal.returns-in-ok-part
-returns-in-ok-part c =
-    found-paths (graph c.args.network.now) c.args.h c.args.receiver _ _ (none-used c.args.network.now c.len.result c.len.ensures) _ c.in-ok-reached.ensures (map vec_items (vec_items c.in-ok-part.field-0)) c.in-None.is c.in-ok-part.ensures
+pub returns-in_ok-part : goal.returns-in_ok-part
+returns-in_ok-part c =
+    found-paths (graph c.args.network.now) c.args.h c.args.receiver _ _ (none-used c.args.network.now c.len.result c.len.ensures) _ c.in_ok-reached.ensures (map vec_items (vec_items c.in_ok-part.field-0)) c.in-None.is c.in_ok-part.ensures

@@ -22,7 +22,7 @@ loop-link-preserved c =
     let place : c.args.place < length ws = omega (arith, ways-length (vec_items c.args.order.now), c.requires.place, c.args.order.now.ok.0) in
     elim c.if-used-k.branch [
       | then-used-k+then-not-marks-node+in-ok-push w ↦
-          subst₂ (Kept (length used) (λ k. get_or ends k 0) used c.args.back row c.args.place ws (j + 1)) (sym (ap vec_items w.order-is ∙ w.in-ok-push.ensures.items)) (sym w.marks-is)
+          subst₂ (Kept (length used) (λ k. get_or ends k 0) used c.args.back row c.args.place ws (j + 1)) (sym (ap vec_items w.order-is ∙ w.in_ok-push.ensures.items)) (sym w.marks-is)
           (kept_new _ _ _ _ _ _ _ j c.loop-link-test.true _ _ c.loop-link.invariant place w.if-used-k.true below (omega arith) w.if-not-marks-node.true)
       | else-used-k w ↦
           subst₂ (Kept (length used) (λ k. get_or ends k 0) used c.args.back row c.args.place ws (j + 1)) (sym (ap vec_items w.order-is)) (sym w.marks-is)

@@ -10,12 +10,12 @@ use Rattle.flow_search.proofs.breadth_first.search.Goals.{then-place-len-via-the
 pub loop-place-init : goal.loop-place-init
 loop-place-init c =
     turn-first (graph c.args.network.now) (sound c.args.network.now) c.args.used.now (length c.args.used.now) (vec_items c.push.new.self) _ _
-    (c.in-ok-push.ensures.items ∙ ap (λ l. l ++ record { node = 0; link = 0; place = 0 } ∷ []) c.clear.ensures.items) refl refl
+    (c.in_ok-push.ensures.items ∙ ap (λ l. l ++ record { node = 0; link = 0; place = 0 } ∷ []) c.clear.ensures.items) refl refl
 
 pub loop-place-preserved : goal.loop-place-preserved
 loop-place-preserved c =
     turn_more (graph c.args.network.now) (sound c.args.network.now) c.args.used.now (length c.args.used.now) c.loop-place.place (vec_items c.loop-place.order) (vec_items c.visit.new.order) c.loop-place.marks _
-    c.loop-place-test.true (omega (arith, ways-length (vec_items c.loop-place.order), c.loop-place.order.ok.0, c.len.ensures, c.if-place-len.false)) c.in-ok-visit.ensures.ways c.in-ok-visit.ensures.queued c.loop-place.invariant
+    c.loop-place-test.true (omega (arith, ways-length (vec_items c.loop-place.order), c.loop-place.order.ok.0, c.len.ensures, c.if-place-len.false)) c.in_ok-visit.ensures.ways c.in_ok-visit.ensures.queued c.loop-place.invariant
 
 pub returns-after-loop-place : goal.returns-after-loop-place
 returns-after-loop-place c =

@@ -15,8 +15,8 @@ row-out-requires c =
     let l = node-below rs _ c.args.place _ c.args.network.now.nodes (node-read rs _ _ _ c.index.ensures c.requires.place n) c.requires.place n c.requires.bounded in
     record { long = omega (arith, l, c.requires.adjoins.out.long); within = c.requires.adjoins.out.within _ l }
 
-pub go-over-requires : goal.go-over-requires
-go-over-requires c =
+pub go_over-requires : goal.go_over-requires
+go_over-requires c =
     let z = c.args.network.now in
     let rs = vec_items c.args.order.now in
     let n = c.args.order.now.ok.0 in
@@ -38,8 +38,8 @@ row-into-requires c =
     let l = node-below rs _ c.args.place _ c.args.network.now.nodes (node-read rs _ _ _ c.index.ensures c.requires.place n) c.requires.place n c.requires.bounded in
     record { long = omega (arith, l, c.requires.adjoins.into.long); within = c.requires.adjoins.into.within _ l }
 
-pub go-over-requires-2 : goal.go-over-requires-2
-go-over-requires-2 c =
+pub go_over-requires-2 : goal.go_over-requires-2
+go_over-requires-2 c =
     let z = c.args.network.now in
     let rs = vec_items c.args.order.now in
     let n = c.args.order.now.ok.0 in
@@ -51,8 +51,8 @@ go-over-requires-2 c =
       row = λ j h. omega (arith, row_below _ q _ _ row j h, links-long z, c.requires.level);
       level = c.deref-2.ensures.len ∙ sym c.requires.level;
       ends = ends-marked z _ _ c.deref-2.ensures.value (sym z.from.ok.0) (λ k h. (z.within k h).0);
-      place = omega (arith, c.requires.place, n, ways-length rs, longer, ap length c.in-ok-go-over.ensures.ways, ways-length (vec_items c.go-over.new.order), c.go-over.new.order.ok.0);
-      queued = c.in-ok-go-over.ensures.queued;
+      place = omega (arith, c.requires.place, n, ways-length rs, longer, ap length c.in_ok-go_over.ensures.ways, ways-length (vec_items c.go_over.new.order), c.go_over.new.order.ok.0);
+      queued = c.in_ok-go_over.ensures.queued;
     }
 
 pub returns : goal.returns
@@ -64,11 +64,11 @@ returns c =
     let e = node-read rs _ _ _ c.index.ensures c.requires.place n in
     let l = node-below rs _ c.args.place q z.nodes e c.requires.place n c.requires.bounded in
     record {
-      ways = made-map c.go-over-2.result _ _
+      ways = made-map c.go_over-2.result _ _
           (λ _ h. visited z c.args.used.now c.args.place (ways_of rs) _ _ c.row-out.result.now c.row-into.result.now c.deref.result.now c.deref-2.result.now
           (omega (arith, ways-length rs, c.requires.place, n))
           (c.row-out.ensures ∙ c.requires.adjoins.out.row q l ∙ ap (out_of (graph z).links) e) (c.row-into.ensures ∙ c.requires.adjoins.into.row q l ∙ ap (into_of (graph z).links) e)
-          c.deref.ensures.value c.deref-2.ensures.value c.in-ok-go-over.ensures.ways h)
-          c.go-over-2.ensures.ways;
-      queued = c.go-over-2.ensures.queued;
+          c.deref.ensures.value c.deref-2.ensures.value c.in_ok-go_over.ensures.ways h)
+          c.go_over-2.ensures.ways;
+      queued = c.go_over-2.ensures.queued;
     }

@@ -15,7 +15,7 @@ loop-k-preserved c =
     let old : List ℕ = vec_items c.args.links.now in
     elim c.if-end-node.branch [
       | then-end-node+in-ok-push w ↦
-          ap vec_items w.links-is ∙ w.in-ok-push.ensures.items ∙ ap (λ l. l ++ k ∷ []) c.loop-k.invariant
+          ap vec_items w.links-is ∙ w.in_ok-push.ensures.items ∙ ap (λ l. l ++ k ∷ []) c.loop-k.invariant
           ∙ append_assoc old (listed end c.args.node k) (k ∷ [])
           ∙ ap (λ l. old ++ l) (sym (listed_more end c.args.node k w.if-end-node.true))
       | else-end-node w ↦ ap vec_items w.links-is ∙ c.loop-k.invariant ∙ ap (λ l. old ++ l) (sym (listed_same end c.args.node k w.if-end-node.false))

@@ -7,8 +7,8 @@ use Rattle.gf.proofs.Xor.{bit-lt, low-lt}
 use Rattle.gf_bytes.proofs.Steps.{pending, turn, no_bits}
 use Rattle.gf_bytes.proofs.byte.mul.Goals as goal
 
-pub overflow-mul-sum : goal.overflow-mul-sum
-overflow-mul-sum c =
+pub overflow_mul-sum : goal.overflow_mul-sum
+overflow_mul-sum c =
     let bits = c.args.b / 2 ^ c.loop-i.i in
     record { fits = rw (and_mask bits 1) (bit-lt (bits % 2) c.loop-i.power 256 (low-lt bits) (lit< tt) c.loop-i.invariant.1) }
 
@@ -30,7 +30,7 @@ loop-i-preserved c =
           ∙ sym (turn 8 0x11b k s.sum s.power bits)
           ∙ ap (λ n. pending 8 0x11b n s.sum s.power bits) (sym size)
           ∙ s.invariant.0,
-      c.double-power.type-inv,
+      omega arith,
     )
 
 pub returns : goal.returns

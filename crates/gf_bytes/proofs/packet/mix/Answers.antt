@@ -12,8 +12,8 @@ pub loop-j-preserved : goal.loop-j-preserved
 loop-j-preserved c = (
   λ k h.
       let multiple = multiple_at c.args.factors.now c.args.packets.now k in
-      rw add-one (c.add-multiple.ensures k h ∙ ap (λ n. bit_xor n (multiple c.loop-j.j)) (c.loop-j.invariant.0 k h)),
-  c.add-multiple.array_long,
+      rw add-one (c.add_multiple.ensures k h ∙ ap (λ n. bit_xor n (multiple c.loop-j.j)) (c.loop-j.invariant.0 k h)),
+  c.add_multiple.array_long,
 )
 
 pub returns : goal.returns

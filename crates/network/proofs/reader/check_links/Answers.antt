@@ -44,50 +44,50 @@ pub loop-k-init : goal.loop-k-init
 unfolding links
 loop-k-init c = (refl, marks-none (from_in c.args.bytes.now), marks-none (to_in c.args.bytes.now))
 
-pub returns-in-default : goal.returns-in-default
-returns-in-default c = short c.args.bytes.now c.loop-k.k (omega arith) c.loop-k.invariant.0 (omega (arith, c.in-default.ensures))
+pub returns-in_default : goal.returns-in_default
+returns-in_default c = short c.args.bytes.now c.loop-k.k (omega arith) c.loop-k.invariant.0 (omega (arith, c.in_default.ensures))
 
-pub returns-in-default-word-at : goal.returns-in-default-word-at
-returns-in-default-word-at c =
-    short c.args.bytes.now c.loop-k.k (omega arith) c.loop-k.invariant.0 (omega (arith, c.in-default-word-at.ensures))
+pub returns-in_default-word_at : goal.returns-in_default-word_at
+returns-in_default-word_at c =
+    short c.args.bytes.now c.loop-k.k (omega arith) c.loop-k.invariant.0 (omega (arith, c.in_default-word_at.ensures))
 
-pub returns-in-Some-link-fault : goal.returns-in-Some-link-fault
-returns-in-Some-link-fault c =
+pub returns-in-Some-link_fault : goal.returns-in-Some-link_fault
+returns-in-Some-link_fault c =
     let bs : List ℕ = c.args.bytes.now in
     let k : ℕ = c.loop-k.k in
-    let f : ℕ = number c.in-Some-link-fault.fault in
+    let f : ℕ = number c.in-Some-link_fault.fault in
     let from = c.in-Some.ensures in
-    let to = c.in-Some-word-at.ensures in
+    let to = c.in-Some-word_at.ensures in
     stopped bs f (5 + 4 * k)
     (links-fault (length bs) (nodes_in bs) (from_in bs) (to_in bs) (links_in bs) k f (5 + 4 * k) (omega arith) c.loop-k.invariant.0
     (item-told (length bs) (5 + 4 * k) (9 + 4 * k) _ f (omega (arith, to.0))
-    (same_number bs k c.args.head.nodes c.in-Some.from c.in-Some-word-at.to c.loop-k.left c.requires.nodes c.requires.limits.1 from.1
-    (to.1 ∙ ap (word_at bs) (omega arith)) c.loop-k.invariant.1 ∙ c.in-Some-link-fault.ensures) (some_number c.in-Some-link-fault.fault)))
+    (same_number bs k c.args.head.nodes c.in-Some.from c.in-Some-word_at.to c.loop-k.left c.requires.nodes c.requires.limits.1 from.1
+    (to.1 ∙ ap (word_at bs) (omega arith)) c.loop-k.invariant.1 ∙ c.in-Some-link_fault.ensures) (some_number c.in-Some-link_fault.fault)))
 
 pub loop-k-preserved : goal.loop-k-preserved
 loop-k-preserved c =
     let bs : List ℕ = c.args.bytes.now in
     let k : ℕ = c.loop-k.k in
     let from = c.in-Some.ensures in
-    let to = c.in-Some-word-at.ensures in
-    let to_is : c.in-Some-word-at.to ≡ to_in bs k = to.1 ∙ ap (word_at bs) (omega arith) in
-    let none = c.in-default-link-fault.ensures in
+    let to = c.in-Some-word_at.ensures in
+    let to_is : c.in-Some-word_at.to ≡ to_in bs k = to.1 ∙ ap (word_at bs) (omega arith) in
+    let none = c.in_default-link_fault.ensures in
     let few : c.args.head.nodes ≤ 256 = c.requires.limits.1 in
     let below : c.in-Some.from < 256 = grind (arith, nat_tests) in
-    let below' : c.in-Some-word-at.to < 256 = grind (arith, nat_tests) in (
+    let below' : c.in-Some-word_at.to < 256 = grind (arith, nat_tests) in (
       links-more (length bs) (nodes_in bs) (from_in bs) (to_in bs) k c.loop-k.invariant.0 (omega (arith, to.0))
-          (same_number bs k c.args.head.nodes c.in-Some.from c.in-Some-word-at.to c.loop-k.left c.requires.nodes few from.1 to_is c.loop-k.invariant.1 ∙ none),
+          (same_number bs k c.args.head.nodes c.in-Some.from c.in-Some-word_at.to c.loop-k.left c.requires.nodes few from.1 to_is c.loop-k.invariant.1 ∙ none),
       marks-more (from_in bs) k c.loop-k.left c.in-Some.from c.loop-k.invariant.1 from.1 below,
-      marks-more (to_in bs) k c.loop-k.entered c.in-Some-word-at.to c.loop-k.invariant.2 to_is below',
+      marks-more (to_in bs) k c.loop-k.entered c.in-Some-word_at.to c.loop-k.invariant.2 to_is below',
     )
 
-pub returns-then-some-unfed : goal.returns-then-some-unfed
-returns-then-some-unfed c =
+pub returns-then-some_unfed : goal.returns-then-some_unfed
+returns-then-some_unfed c =
     rw c.requires.links
     (ended c.args.bytes.now c.loop-k.k c.args.head.nodes c.loop-k.left c.loop-k.entered true c.loop-k.invariant.0 (omega arith) c.requires.nodes c.requires.limits.1
-    c.requires.long c.loop-k.invariant.1 c.loop-k.invariant.2 c.if-some-unfed.ensures)
+    c.requires.long c.loop-k.invariant.1 c.loop-k.invariant.2 c.if-some_unfed.ensures)
 
 pub returns : goal.returns
 returns c =
     ended c.args.bytes.now c.loop-k.k c.args.head.nodes c.loop-k.left c.loop-k.entered false c.loop-k.invariant.0 (omega arith) c.requires.nodes c.requires.limits.1
-    c.requires.long c.loop-k.invariant.1 c.loop-k.invariant.2 c.if-some-unfed.ensures
+    c.requires.long c.loop-k.invariant.1 c.loop-k.invariant.2 c.if-some_unfed.ensures

@@ -48,23 +48,23 @@ pub loop-i-init : goal.loop-i-init
 unfolding receivers
 loop-i-init c = (refl, refl)
 
-pub returns-in-default : goal.returns-in-default
-returns-in-default c =
+pub returns-in_default : goal.returns-in_default
+returns-in_default c =
     let bs : List ℕ = c.args.bytes.now in
     let i : ℕ = c.loop-i.i in
     stopped bs c.args.head.links c.args.count c.requires.links c.requires.count i 1 c.loop-i-test.true c.loop-i.invariant.0
-    (item-short (length bs) (7 + 4 * links_in bs + 2 * i) (7 + 4 * links_in bs + 2 * i + 2) _ (omega (arith, c.in-default.ensures)))
+    (item-short (length bs) (7 + 4 * links_in bs + 2 * i) (7 + 4 * links_in bs + 2 * i + 2) _ (omega (arith, c.in_default.ensures)))
 
-pub returns-in-Some-receiver-fault : goal.returns-in-Some-receiver-fault
-returns-in-Some-receiver-fault c =
+pub returns-in-Some-receiver_fault : goal.returns-in-Some-receiver_fault
+returns-in-Some-receiver_fault c =
     let bs : List ℕ = c.args.bytes.now in
     let i : ℕ = c.loop-i.i in
     let place = c.in-Some.ensures in
-    let f : ℕ = number c.in-Some-receiver-fault.fault in
+    let f : ℕ = number c.in-Some-receiver_fault.fault in
     stopped bs c.args.head.links c.args.count c.requires.links c.requires.count i f c.loop-i-test.true c.loop-i.invariant.0
     (item-told (length bs) (7 + 4 * links_in bs + 2 * i) (7 + 4 * links_in bs + 2 * i + 2) _ f (omega (arith, place.0))
     (same_number bs i c.args.head.nodes c.loop-i.before c.in-Some.place c.requires.nodes c.loop-i.invariant.1 (place.1 ∙ ap (word_at bs) (omega arith))
-    ∙ c.in-Some-receiver-fault.ensures) (some_number c.in-Some-receiver-fault.fault))
+    ∙ c.in-Some-receiver_fault.ensures) (some_number c.in-Some-receiver_fault.fault))
 
 pub loop-i-preserved : goal.loop-i-preserved
 loop-i-preserved c =
@@ -73,7 +73,7 @@ loop-i-preserved c =
     let place = c.in-Some.ensures in
     let is : c.in-Some.place ≡ receiver_in bs (links_in bs) i = place.1 ∙ ap (word_at bs) (omega arith) in (
       receivers-more (length bs) (7 + 4 * links_in bs) (nodes_in bs) (receiver_in bs (links_in bs)) i c.loop-i.invariant.0 (omega (arith, place.0))
-          (same_number bs i c.args.head.nodes c.loop-i.before c.in-Some.place c.requires.nodes c.loop-i.invariant.1 is ∙ c.in-default-receiver-fault.ensures),
+          (same_number bs i c.args.head.nodes c.loop-i.before c.in-Some.place c.requires.nodes c.loop-i.invariant.1 is ∙ c.in_default-receiver_fault.ensures),
       rw (add-one i) is,
     )
 

@@ -5,11 +5,11 @@ use Rattle.octets.specs.Words.{word_at}
 use Rattle.octets.proofs.Reading.{item-short, item-fine, item-told}
 use Rattle.network.proofs.reader.read_head.Goals as goal
 
-pub returns-in-default : goal.returns-in-default
-returns-in-default c = record { tells = item-short (length c.args.bytes.now) 0 5 _ (omega (arith, ltb-true)); counts = tt }
+pub returns-in_default : goal.returns-in_default
+returns-in_default c = record { tells = item-short (length c.args.bytes.now) 0 5 _ (omega (arith, ltb-true)); counts = tt }
 
-pub returns-in-default-kind : goal.returns-in-default-kind
-returns-in-default-kind c =
+pub returns-in_default-kind : goal.returns-in_default-kind
+returns-in_default-kind c =
     record { tells = item-told (length c.args.bytes.now) 0 5 _ 1 (omega (arith, ltb-false)) (grind (arith, nat_tests)) (omega arith); counts = tt }
 
 pub returns-then-nodes-lt1 : goal.returns-then-nodes-lt1

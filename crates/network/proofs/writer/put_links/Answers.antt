@@ -20,8 +20,8 @@ more start old mid new fs ts k level h e f g =
 
 pub loop-k-preserved : goal.loop-k-preserved
 loop-k-preserved c =
-    more (vec_items c.args.out.now) (vec_items c.loop-k.out) (vec_items c.put-word.new.out) _ c.args.from.now c.args.to.now c.loop-k.k c.requires
-    c.loop-k-test.true c.loop-k.invariant c.in-ok-put-word.ensures c.in-ok-put-word-2.ensures
+    more (vec_items c.args.out.now) (vec_items c.loop-k.out) (vec_items c.put_word.new.out) _ c.args.from.now c.args.to.now c.loop-k.k c.requires
+    c.loop-k-test.true c.loop-k.invariant c.in_ok-put_word.ensures c.in_ok-put_word-2.ensures
 
 pub returns : goal.returns
 returns c =

@@ -20,12 +20,12 @@ returns c =
     let z = m.network in
     let n-is = links-long z in
     let r-is : vec_len m.receivers ≡ length (vec_items m.receivers) = omega (arith, m.receivers.ok.0) in
-    let bytes : vec_items c.put-words.new.out ≡ bytes_of (value m) =
-    joined-parts _ _ _ _ (vec_items c.put-links.new.out) _ (vec_items c.push-3.new.self) _ (flat_map link_bytes (paired (vec_items z.from) (vec_items z.to)))
-    (flat_map word_bytes (vec_items m.receivers)) z.nodes c.len.result m.rate c.len-2.result c.new-out.ensures.items c.in-ok-push.ensures.items
-    c.in-ok-put-word.ensures c.in-ok-put-word-2.ensures
-    (c.in-ok-put-links.ensures ∙ rw (c.deref.ensures.value, c.deref-2.ensures.value)) c.in-ok-push-2.ensures.items
-    c.in-ok-push-3.ensures.items (c.in-ok-put-words.ensures ∙ rw c.deref-3.ensures.value)
+    let bytes : vec_items c.put_words.new.out ≡ bytes_of (value m) =
+    joined-parts _ _ _ _ (vec_items c.put_links.new.out) _ (vec_items c.push-3.new.self) _ (flat_map link_bytes (paired (vec_items z.from) (vec_items z.to)))
+    (flat_map word_bytes (vec_items m.receivers)) z.nodes c.len.result m.rate c.len-2.result c.new-out.ensures.items c.in_ok-push.ensures.items
+    c.in_ok-put_word.ensures c.in_ok-put_word-2.ensures
+    (c.in_ok-put_links.ensures ∙ rw (c.deref.ensures.value, c.deref-2.ensures.value)) c.in_ok-push-2.ensures.items
+    c.in_ok-push-3.ensures.items (c.in_ok-put_words.ensures ∙ rw c.deref-3.ensures.value)
     ∙ ap₂ (λ x y. head_bytes z.nodes x ++ flat_map link_bytes (paired (vec_items z.from) (vec_items z.to)) ++ (m.rate ∷ y ∷ flat_map word_bytes (vec_items m.receivers)))
     (c.len.ensures ∙ n-is) (c.len-2.ensures ∙ r-is) in
     record { bytes = bytes; back = ap read_net bytes ∙ read_back (value m) (accepted m) }

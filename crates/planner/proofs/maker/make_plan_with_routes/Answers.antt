@@ -38,20 +38,20 @@ pub code-requires : goal.code-requires
 code-requires c =
     let m = c.args.net.now in
     let aims = vec_items c.in-Paths.aims in
-    let found = subst (λ x. Serving (value m) x) c.in-Paths.is c.in-ok-aims.ensures.serves in
+    let found = subst (λ x. Serving (value m) x) c.in-Paths.is c.in_ok-aims.ensures.serves in
     let same = sym c.deref.ensures.value in
     record {
       served = subst (λ l. Served (graph m.network) m.rate (aims_of l)) same (few m (aims_of aims) found);
       away = subst (λ l. Away (aims_of l)) same (none-at-source m (aims_of aims) found);
     }
 
-pub returns-in-ok-coded : goal.returns-in-ok-coded
-returns-in-ok-coded c =
+pub returns-in_ok-coded : goal.returns-in_ok-coded
+returns-in_ok-coded c =
     let m = c.args.net.now in
     let aims = vec_items c.in-Paths.aims in
-    let e = subst (λ x. Finds x (route (graph m.network) m.rate (vec_items m.receivers))) c.in-Paths.is c.in-ok-aims.ensures.exact in
-    let coded = c.in-ok-coded.coded in
-    let means = subst (λ l. Means m.rate coded (code byte_field (graph m.network) m.rate (aims_of l))) c.deref.ensures.value c.in-ok-coded.ensures in
+    let e = subst (λ x. Finds x (route (graph m.network) m.rate (vec_items m.receivers))) c.in-Paths.is c.in_ok-aims.ensures.exact in
+    let coded = c.in_ok-coded.coded in
+    let means = subst (λ l. Means m.rate coded (code byte_field (graph m.network) m.rate (aims_of l))) c.deref.ensures.value c.in_ok-coded.ensures in
     let exact : served (map vec_items (vec_items coded.coefficients)) (map reader (vec_items coded.receivers)) ≡ plan_of (value m) =
     ap₂ served means.coefficients (same-readers m.rate (vec_items coded.receivers) (code byte_field (graph m.network) m.rate (aims_of aims)).receivers means.all means.receivers)
     ∙ ap (planned (graph m.network) m.rate) (sym e) in
@@ -65,7 +65,7 @@ returns-in-ok-coded c =
 pub returns-in-Cut : goal.returns-in-Cut
 returns-in-Cut c =
     let m = c.args.net.now in
-    let e = subst (λ x. Finds x (route (graph m.network) m.rate (vec_items m.receivers))) c.in-Cut.is c.in-ok-aims.ensures.exact in
+    let e = subst (λ x. Finds x (route (graph m.network) m.rate (vec_items m.receivers))) c.in-Cut.is c.in_ok-aims.ensures.exact in
     let long : length c.in-Cut.side ≡ 256 = search rules in
     let exact : unserved c.in-Cut.receiver c.in-Cut.side ≡ plan_of (value m) =
     ap (unserved c.in-Cut.receiver) (same_flags c.in-Cut.side e.0 long e.2) ∙ ap (planned (graph m.network) m.rate) (sym e.1) in

@@ -10,7 +10,7 @@ loop-j-preserved c =
     let f = c.args.first in
     let old = c.args.packets.now.items in
     let here : f + l.j < length l.packets.items = omega (arith, l.packets.ok.0, l.invariant.0, c.requires.room, c.loop-j-test.true) in
-    let is : c.copy-from-slice.new.self ≡ part 1024 l.j b = c.copy-from-slice.ensures.after ∙ slice-part l.j 1024 1024 b b refl refl in (
+    let is : c.copy_from_slice.new.self ≡ part 1024 l.j b = c.copy_from_slice.ensures.after ∙ slice-part l.j 1024 1024 b b refl refl in (
       l.invariant.0,
       put-more b f old l.packets.items l.j here _ is l.invariant.1,
       λ k h. put-beside b f old l.packets.items l.j here _ is k (λ e. omega arith) (l.invariant.2 k h),

@@ -12,7 +12,7 @@ pub loop-i-preserved : goal.loop-i-preserved
 loop-i-preserved c =
     elim c.if-n-number.branch [
       | then-n-number+in-ok-push w ↦
-          places-hit c.args.number c.args.numbers.now c.loop-i.i c.loop-i-test.true _ _ c.loop-i.invariant w.if-n-number.true (ap vec_items w.found-is ∙ w.in-ok-push.ensures.items)
+          places-hit c.args.number c.args.numbers.now c.loop-i.i c.loop-i-test.true _ _ c.loop-i.invariant w.if-n-number.true (ap vec_items w.found-is ∙ w.in_ok-push.ensures.items)
       | else-n-number w ↦
           places-miss c.args.number c.args.numbers.now c.loop-i.i c.loop-i-test.true _ _ c.loop-i.invariant w.if-n-number.false (ap vec_items w.found-is)
     ]

@@ -10,7 +10,7 @@ pub loop-link-preserved : goal.loop-link-preserved
 loop-link-preserved c =
     let stands : c.match-position.i ≡ place (get_or c.args.links.now c.loop-link.link-index 0) c.args.ins.now =
     elim c.match-position.branch [ in-Some w ↦ w.i-is ∙ w.in-Some.ensures.2 | in-None w ↦ w.i-is ∙ sym (place_none (get_or c.args.links.now c.loop-link.link-index 0) c.args.ins.now w.in-None.ensures) ] in
-    positions-more c.args.ins.now c.args.links.now c.loop-link.link-index c.match-position.i (vec_items c.loop-link.found) (vec_items c.push.new.self) c.loop-link-test.true c.loop-link.invariant c.in-ok-push.ensures.items stands
+    positions-more c.args.ins.now c.args.links.now c.loop-link.link-index c.match-position.i (vec_items c.loop-link.found) (vec_items c.push.new.self) c.loop-link-test.true c.loop-link.invariant c.in_ok-push.ensures.items stands
 
 pub returns : goal.returns
 returns c = c.loop-link.invariant ∙ ap (current c.args.ins.now) (take_all c.loop-link.link-index c.args.links.now c.loop-link-test.false)

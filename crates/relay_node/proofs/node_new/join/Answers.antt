@@ -11,7 +11,7 @@ pub loop-i-preserved : goal.loop-i-preserved
 loop-i-preserved c =
     join_more vec_items (vec_items c.args.rows.now) c.loop-i.i c.index.result.now (vec_items c.loop-i.all) _
     (omega (arith, c.args.rows.now.ok.0, c.len-i-end.ensures, c.loop-i-test.true)) c.index.ensures c.loop-i.invariant
-    (c.in-ok-extend-from-slice.ensures.items ∙ ap (λ q. vec_items c.loop-i.all ++ q) c.deref.ensures.value)
+    (c.in_ok-extend_from_slice.ensures.items ∙ ap (λ q. vec_items c.loop-i.all ++ q) c.deref.ensures.value)
 
 pub returns : goal.returns
 returns c =

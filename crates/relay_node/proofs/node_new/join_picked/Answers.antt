@@ -9,7 +9,7 @@ pub loop-k-preserved : goal.loop-k-preserved
 loop-k-preserved c =
     pick_more vec_items (vec_items c.args.rows.now) c.args.which.now c.loop-k.k-index c.index.result.now (vec_items c.loop-k.all) _
     c.loop-k-test.true (omega (arith, c.args.rows.now.ok.0, c.requires c.loop-k.k-index c.loop-k-test.true)) c.index.ensures c.loop-k.invariant
-    (c.in-ok-extend-from-slice.ensures.items ∙ ap (λ q. vec_items c.loop-k.all ++ q) c.deref.ensures.value)
+    (c.in_ok-extend_from_slice.ensures.items ∙ ap (λ q. vec_items c.loop-k.all ++ q) c.deref.ensures.value)
 
 pub returns : goal.returns
 returns c =

@@ -8,10 +8,10 @@ pub returns : goal.returns
 returns c =
     record {
       nodes = λ d. (
-        c.take-message-node.result.0,
+        c.take_message-node.result.0,
         replaced _ _ _ _ _ _ c.exchange-nodes.ensures.items c.exchange.ensures.items,
         took-at _ _ _ (λ n. take_message n.source n.slots.width (vec_items n.slots.ins) (state n.slots) c.args.round c.args.bytes.now) (c.exchange-nodes.ensures.old d)
-            ((c.take-message-node.result.1, c.take-message-node.ensures.answer), c.take-message-node.ensures.code),
+            ((c.take_message-node.result.1, c.take_message-node.ensures.answer), c.take_message-node.ensures.code),
       );
       len = c.exchange.ensures.len ∙ c.exchange-nodes.ensures.len;
     }

@@ -52,8 +52,8 @@ bounds-counts-index c = below c.args.network.now c.loop-k.k c.index.result.now (
 pub bounds-counts-index-in-loop-k : goal.bounds-counts-index-in-loop-k
 bounds-counts-index-in-loop-k c = below c.args.network.now c.loop-k.k c.index.result.now (omega (arith, c.len-k-end.ensures)) c.index.ensures
 
-pub overflow-add-counts : goal.overflow-add-counts
-overflow-add-counts c =
+pub overflow_add-counts : goal.overflow_add-counts
+overflow_add-counts c =
     let z = c.args.network.now in
     let to : ℕ = c.index.result.now in
     let h : c.loop-k.k < vec_len z.to = omega (arith, c.len-k-end.ensures) in

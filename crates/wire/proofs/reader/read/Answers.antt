@@ -17,12 +17,12 @@ settled : (m : Multicast) (bs : List ℕ) (e : ReadError) → Refuses (read_plan
 settled m bs (Faulty f at) t = let l = local m bs (number f) at t.0 t.1 in (t.0, l.0, l.1)
 settled m bs (Memory at) t = tt
 
-pub returns-in-err-plan : goal.returns-in-err-plan
-returns-in-err-plan c =
+pub returns-in_err-plan : goal.returns-in_err-plan
+returns-in_err-plan c =
     let m : Multicast = value c.args.net.now in
     let bs : List ℕ = c.args.bytes.now in
-    let p = err_from_is_err_and c.from-residual.result c.from-residual.ensures.1 in
-    let told = refuses-whole m bs _ c.in-err-plan.ensures in
+    let p = err_from_is_err_and c.from_residual.result c.from_residual.ensures.1 in
+    let told = refuses-whole m bs _ c.in_err-plan.ensures in
     rw (p.1, p.2) (record { answer = told; fits = tt; kept = tt; settled = settled m bs _ told })
 
 -- bytes are left over
@@ -34,8 +34,8 @@ pub returns-then-end-bytes : goal.returns-then-end-bytes
 returns-then-end-bytes c =
     let m : Multicast = value c.args.net.now in
     let bs : List ℕ = c.args.bytes.now in
-    let at : ℕ = c.in-ok-plan.end in
-    let told = left_over m bs (plan c.in-ok-plan.plan) at c.in-ok-plan.ensures.0 c.if-end-bytes.true in
+    let at : ℕ = c.in_ok-plan.end in
+    let told = left_over m bs (plan c.in_ok-plan.plan) at c.in_ok-plan.ensures.0 c.if-end-bytes.true in
     let l = local m bs 1 at (at + 1) told in
     record { answer = (at + 1, told); fits = tt; kept = tt; settled = (at + 1, l.0, l.1) }
 
@@ -47,8 +47,8 @@ pub returns : goal.returns
 returns c =
     let m : Multicast = value c.args.net.now in
     let bs : List ℕ = c.args.bytes.now in
-    let x : Plan = plan c.in-ok-plan.plan in
-    let at : ℕ = c.in-ok-plan.end in
-    let read = all m bs x at c.in-ok-plan.ensures.0 c.if-end-bytes.false in
-    let k = kept m bs x at [] (λ i. (c.type-inv.bytes i).fits) read in
+    let x : Plan = plan c.in_ok-plan.plan in
+    let at : ℕ = c.in_ok-plan.end in
+    let read = all m bs x at c.in_ok-plan.ensures.0 c.if-end-bytes.false in
+    let k = kept m bs x at [] (λ i. (c.type_inv.bytes i).fits) read in
     record { answer = (at, read); fits = k.0; kept = k.1; settled = tt }

@@ -19,26 +19,26 @@ module _ (net : Net) (k : ℕ) (h : k < vec_len net.network.from) where
   itself : (hand : ℕ) → hand ≡ get_or (hands (value net)) k 0 → hand ≡ get_or (hands (value net)) k hand
   itself hand e = e ∙ get_or_default (hands (value net)) k 0 hand inside
 
-pub returns-in-err-row : goal.returns-in-err-row
-returns-in-err-row c =
+pub returns-in_err-row : goal.returns-in_err-row
+returns-in_err-row c =
     let net = c.args.net.now in
     let h : c.loop-k.k < vec_len net.network.from = omega (arith, c.loop-k-test.true, c.len-k-end.ensures) in
-    let p = err_from_is_err_and c.from-residual.result c.from-residual.ensures.1 in
+    let p = err_from_is_err_and c.from_residual.result c.from_residual.ensures.1 in
     rw (p.1, p.2)
     (one-refused link_item link-lawful c.args.bytes.now (hands (value net)) (each link_item (hands (value net)) 2 (drop 2 c.args.bytes.now)) (map vec_items (vec_items c.loop-k.rows)) c.loop-k.k
-    c.loop-k.at c.hand-at-hand.result (inside net c.loop-k.k h) (itself net c.loop-k.k h c.hand-at-hand.result c.hand-at-hand.ensures) c.loop-k.invariant.0 _ c.in-err-row.ensures)
+    c.loop-k.at c.hand_at-hand.result (inside net c.loop-k.k h) (itself net c.loop-k.k h c.hand_at-hand.result c.hand_at-hand.ensures) c.loop-k.invariant.0 _ c.in_err-row.ensures)
 
-pub returns-in-default : goal.returns-in-default
-returns-in-default c =
+pub returns-in_default : goal.returns-in_default
+returns-in_default c =
     let net = c.args.net.now in
     let h : c.loop-k.k < vec_len net.network.from = omega (arith, c.loop-k-test.true, c.len-k-end.ensures) in
     let bs : List ℕ = c.args.bytes.now in
     let at : ℕ = c.loop-k.at in
-    let hand : ℕ = c.hand-at-hand.result in
-    let read = c.in-ok-row.ensures.0 in
+    let hand : ℕ = c.hand_at-hand.result in
+    let read = c.in_ok-row.ensures.0 in
     one-refused link_item link-lawful bs (hands (value net)) (each link_item (hands (value net)) 2 (drop 2 bs)) (map vec_items (vec_items c.loop-k.rows)) c.loop-k.k at hand
-    (inside net c.loop-k.k h) (itself net c.loop-k.k h hand c.hand-at-hand.ensures) c.loop-k.invariant.0 (Memory at)
-    (subst (Behind at) (sym read) (link-grows hand at (drop at bs) (vec_items c.in-ok-row.row) c.in-ok-row.next (drop c.in-ok-row.next bs) read))
+    (inside net c.loop-k.k h) (itself net c.loop-k.k h hand c.hand_at-hand.ensures) c.loop-k.invariant.0 (Memory at)
+    (subst (Behind at) (sym read) (link-grows hand at (drop at bs) (vec_items c.in_ok-row.row) c.in_ok-row.next (drop c.in_ok-row.next bs) read))
 
 pub loop-k-preserved : goal.loop-k-preserved
 loop-k-preserved c =
@@ -46,15 +46,15 @@ loop-k-preserved c =
     let h : c.loop-k.k < vec_len net.network.from = omega (arith, c.loop-k-test.true, c.len-k-end.ensures) in
     let bs : List ℕ = c.args.bytes.now in
     let at : ℕ = c.loop-k.at in
-    let hand : ℕ = c.hand-at-hand.result in
+    let hand : ℕ = c.hand_at-hand.result in
     let whole : Read (List (List ℕ)) = each link_item (hands (value net)) 2 (drop 2 bs) in
     let old : List (List ℕ) = map vec_items (vec_items c.loop-k.rows) in
-    let row : List ℕ = vec_items c.in-ok-row.row in
-    let next : ℕ = c.in-ok-row.next in
-    let rows : map vec_items (vec_items c.push.new.self) ≡ old ++ row ∷ [] = ap (map vec_items) c.in-Ok.ensures.items ∙ map_push vec_items (vec_items c.loop-k.rows) c.in-ok-row.row in
-    let more = one_more link_item bs (hands (value net)) whole old c.loop-k.k at next hand row (inside net c.loop-k.k h) (itself net c.loop-k.k h hand c.hand-at-hand.ensures) c.loop-k.invariant.0
-    c.in-ok-row.ensures.0 in
-    (more ∙ ap (λ l. after_all l (each link_item (drop (c.loop-k.k + 1) (hands (value net))) next (drop next bs))) (sym rows), c.in-ok-row.ensures.1)
+    let row : List ℕ = vec_items c.in_ok-row.row in
+    let next : ℕ = c.in_ok-row.next in
+    let rows : map vec_items (vec_items c.push.new.self) ≡ old ++ row ∷ [] = ap (map vec_items) c.in-Ok.ensures.items ∙ map_push vec_items (vec_items c.loop-k.rows) c.in_ok-row.row in
+    let more = one_more link_item bs (hands (value net)) whole old c.loop-k.k at next hand row (inside net c.loop-k.k h) (itself net c.loop-k.k h hand c.hand_at-hand.ensures) c.loop-k.invariant.0
+    c.in_ok-row.ensures.0 in
+    (more ∙ ap (λ l. after_all l (each link_item (drop (c.loop-k.k + 1) (hands (value net))) next (drop next bs))) (sym rows), c.in_ok-row.ensures.1)
 
 pub returns : goal.returns
 returns c =

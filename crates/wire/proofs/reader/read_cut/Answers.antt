@@ -8,7 +8,7 @@ use Rattle.wire.specs.Plan.{unserved}
 use Rattle.wire.specs.Format.{got, fault, cut_item, cut_fault, side_in, beyond, among}
 use Rattle.wire.proofs.Parsing.{item-short, item-good, item-bad}
 use Rattle.wire.proofs.reader.read_cut.Goals as goal
-use Rattle.wire.proofs.reader.read_cut.Goals.{then-receiver-net-via-then-receiver-net, then-receiver-net-via-else-receiver-net+then-is-beyond}
+use Rattle.wire.proofs.reader.read_cut.Goals.{then-receiver-net-via-then-receiver-net, then-receiver-net-via-else-receiver-net+then-is_beyond}
 
 -- the item by the receiver and the flags that were read
 module _ (m : Multicast) (rest : List ℕ) (p : ℕ) (side : List Bool) (p-is : p ≡ word_at rest 0) (side-is : side ≡ side_in (drop 2 rest)) where
@@ -53,27 +53,27 @@ returns-then-receiver-net c =
     let m : Multicast = value c.args.net.now in
     let bs : List ℕ = c.args.bytes.now in
     let p : ℕ = c.word-receiver.result in
-    let side : List Bool = c.read-side-side.result in
+    let side : List Bool = c.read_side-side.result in
     let long : 34 ≤ length (drop 2 bs) = subst (λ l. 34 ≤ length l) (take_rest bs 2) c.if-rest-lt34.false in (
       36,
-      outside m (drop 2 bs) p side (word-is bs p c.word-receiver.ensures) (flags-are bs side c.read-side-side.ensures) long
+      outside m (drop 2 bs) p side (word-is bs p c.word-receiver.ensures) (flags-are bs side c.read_side-side.ensures) long
           (elim c.then-receiver-net.branch [
             | then-receiver-net-via-then-receiver-net w ↦ and_left (ltb p m.network.nodes) (not (beyond m.network.nodes side)) (le-ltb p m.network.nodes w.if-receiver-net.true)
-            | then-receiver-net-via-else-receiver-net+then-is-beyond w ↦ and_right (ltb p m.network.nodes) (not (beyond m.network.nodes side)) (not_from_true (beyond m.network.nodes side) (sym w.if-is-beyond.ensures))
+            | then-receiver-net-via-else-receiver-net+then-is_beyond w ↦ and_right (ltb p m.network.nodes) (not (beyond m.network.nodes side)) (not_from_true (beyond m.network.nodes side) (sym w.if-is_beyond.ensures))
           ]),
     )
 
-pub returns-then-not-is-among : goal.returns-then-not-is-among
-returns-then-not-is-among c =
+pub returns-then-not-is_among : goal.returns-then-not-is_among
+returns-then-not-is_among c =
     let m : Multicast = value c.args.net.now in
     let bs : List ℕ = c.args.bytes.now in
     let p : ℕ = c.word-receiver.result in
-    let side : List Bool = c.read-side-side.result in
+    let side : List Bool = c.read_side-side.result in
     let long : 34 ≤ length (drop 2 bs) = subst (λ l. 34 ≤ length l) (take_rest bs 2) c.if-rest-lt34.false in (
       36,
-      nobody m (drop 2 bs) p side (word-is bs p c.word-receiver.ensures) (flags-are bs side c.read-side-side.ensures) long
-          (and_from (ltb p m.network.nodes) (not (beyond m.network.nodes side)) (lt-ltb p m.network.nodes c.if-receiver-net.false) (not_from_false (beyond m.network.nodes side) (sym c.if-is-beyond.ensures)))
-          (ap (among p) (sym c.deref.ensures.value) ∙ sym c.if-not-is-among.ensures),
+      nobody m (drop 2 bs) p side (word-is bs p c.word-receiver.ensures) (flags-are bs side c.read_side-side.ensures) long
+          (and_from (ltb p m.network.nodes) (not (beyond m.network.nodes side)) (lt-ltb p m.network.nodes c.if-receiver-net.false) (not_from_false (beyond m.network.nodes side) (sym c.if-is_beyond.ensures)))
+          (ap (among p) (sym c.deref.ensures.value) ∙ sym c.if-not-is_among.ensures),
     )
 
 pub returns : goal.returns
@@ -81,11 +81,11 @@ returns c =
     let m : Multicast = value c.args.net.now in
     let bs : List ℕ = c.args.bytes.now in
     let p : ℕ = c.word-receiver.result in
-    let side : List Bool = c.read-side-side.result in
+    let side : List Bool = c.read_side-side.result in
     let long : 34 ≤ length (drop 2 bs) = subst (λ l. 34 ≤ length l) (take_rest bs 2) c.if-rest-lt34.false in (
-      whole m (drop 2 bs) p side (word-is bs p c.word-receiver.ensures) (flags-are bs side c.read-side-side.ensures) long
-          (and_from (ltb p m.network.nodes) (not (beyond m.network.nodes side)) (lt-ltb p m.network.nodes c.if-receiver-net.false) (not_from_false (beyond m.network.nodes side) (sym c.if-is-beyond.ensures)))
-          (ap (among p) (sym c.deref.ensures.value) ∙ sym c.if-not-is-among.ensures)
+      whole m (drop 2 bs) p side (word-is bs p c.word-receiver.ensures) (flags-are bs side c.read_side-side.ensures) long
+          (and_from (ltb p m.network.nodes) (not (beyond m.network.nodes side)) (lt-ltb p m.network.nodes c.if-receiver-net.false) (not_from_false (beyond m.network.nodes side) (sym c.if-is_beyond.ensures)))
+          (ap (among p) (sym c.deref.ensures.value) ∙ sym c.if-not-is_among.ensures)
           ∙ ap (got (unserved p side) 36) (drop-drop 34 2 bs),
       omega (arith, length-drop 2 bs),
     )

@@ -29,26 +29,26 @@ returns-then-rest-end c =
     let h : ℕ = c.args.net.now.rate in
     (_, short (graph c.args.net.now.network).links h c.args.node c.args.at (drop c.args.at bs) (subst (λ l. length l < 2 * h + h * h) (take_rest bs c.args.at) c.if-rest-end.true))
 
-pub returns-then-not-all-come : goal.returns-then-not-all-come
-returns-then-not-all-come c =
+pub returns-then-not-all_come : goal.returns-then-not-all_come
+returns-then-not-all_come c =
     let bs : List ℕ = c.args.bytes.now in
     let h : ℕ = c.args.net.now.rate in
     let ls : List Link = (graph c.args.net.now.network).links in
     let part = take_rest bs c.args.at in (
       _,
       unfit ls h c.args.node c.args.at (drop c.args.at bs) (subst (λ l. 2 * h + h * h ≤ length l) part c.if-rest-end.false)
-          (subst (λ l. all_come ls c.args.node (words_in h l) ≡ false) part (sym c.if-not-all-come.ensures)),
+          (subst (λ l. all_come ls c.args.node (words_in h l) ≡ false) part (sym c.if-not-all_come.ensures)),
     )
 
-pub returns-in-default : goal.returns-in-default
-returns-in-default c =
+pub returns-in_default : goal.returns-in_default
+returns-in_default c =
     let bs : List ℕ = c.args.bytes.now in
     let h : ℕ = c.args.net.now.rate in
     let ls : List Link = (graph c.args.net.now.network).links in
     let part = take_rest bs c.args.at in
     subst (Behind c.args.at)
     (sym (whole ls h c.args.node c.args.at (drop c.args.at bs) (subst (λ l. 2 * h + h * h ≤ length l) part c.if-rest-end.false)
-    (subst (λ l. all_come ls c.args.node (words_in h l) ≡ true) part (sym c.if-not-all-come.ensures))))
+    (subst (λ l. all_come ls c.args.node (words_in h l) ≡ true) part (sym c.if-not-all_come.ensures))))
     (omega (arith, c.args.net.now.rates.0))
 
 pub returns : goal.returns
@@ -63,7 +63,7 @@ returns c =
     let links : vec_items d.links ≡ words_in h (drop at bs) = c.in-Ok.ensures.0 ∙ ap (words_in h) part in
     let rows : map vec_items (vec_items d.rows) ≡ rows_in h h (drop (2 * h) (drop at bs)) = c.in-Ok.ensures.1 ∙ ap (λ l. rows_in h h (drop (2 * h) l)) part in
     let same : reader_in ls h c.args.node at (drop at bs) ≡ reader d = rw (sym links, sym rows) in (
-      whole ls h c.args.node at (drop at bs) long (subst (λ l. all_come ls c.args.node (words_in h l) ≡ true) part (sym c.if-not-all-come.ensures))
+      whole ls h c.args.node at (drop at bs) long (subst (λ l. all_come ls c.args.node (words_in h l) ≡ true) part (sym c.if-not-all_come.ensures))
           ∙ ap₂ (λ x l. got x (at + (2 * h + h * h)) l) same (drop-drop (2 * h + h * h) at bs),
       omega (arith, length-drop at bs, c.requires),
     )

@@ -26,8 +26,8 @@ module _ (m : Multicast) (bs : List ℕ) where
       let good : ◌≡◌ {A = ℕ} (cond known 0 1) 0 = ap₂ (λ x y. cond (eqb x 2 && (eqb y 1 || eqb y 2)) 0 1) first second ∙ ap (λ t. cond t 0 1) e in
       ap (λ r. and_then r (body m)) (item-good 2 (cond known 0 1) (get_or bs 1 0) 0 bs h good ∙ ap (λ k. got k 2 (drop 2 bs)) second)
 
-pub returns-in-default : goal.returns-in-default
-returns-in-default c = (2, short (value c.args.net.now) c.args.bytes.now (omega (arith, ltb-true)))
+pub returns-in_default : goal.returns-in_default
+returns-in_default c = (2, short (value c.args.net.now) c.args.bytes.now (omega (arith, ltb-true)))
 
 pub returns-then-first-ne2 : goal.returns-then-first-ne2
 returns-then-first-ne2 c =
@@ -38,16 +38,16 @@ pub returns-in-1 : goal.returns-in-1
 returns-in-1 c =
     let m : Multicast = value c.args.net.now in
     let bs : List ℕ = c.args.bytes.now in
-    subst (λ v. Reads plan bs v c.read-served.result) (sym (of-kind m bs 1 (omega (arith, ltb-false)) c.if-first-ne2.false c.in-1.is refl)) c.read-served.ensures
+    subst (λ v. Reads plan bs v c.read_served.result) (sym (of-kind m bs 1 (omega (arith, ltb-false)) c.if-first-ne2.false c.in-1.is refl)) c.read_served.ensures
 
 pub returns-in-2 : goal.returns-in-2
 returns-in-2 c =
     let m : Multicast = value c.args.net.now in
     let bs : List ℕ = c.args.bytes.now in
-    subst (λ v. Reads plan bs v c.read-cut.result) (sym (of-kind m bs 2 (omega (arith, ltb-false)) c.if-first-ne2.false c.in-2.is refl)) c.read-cut.ensures
+    subst (λ v. Reads plan bs v c.read_cut.result) (sym (of-kind m bs 2 (omega (arith, ltb-false)) c.if-first-ne2.false c.in-2.is refl)) c.read_cut.ensures
 
-pub returns-in-default-kind : goal.returns-in-default-kind
-returns-in-default-kind c =
+pub returns-in_default-kind : goal.returns-in_default-kind
+returns-in_default-kind c =
     let bs : List ℕ = c.args.bytes.now in
     let other : (eqb (get_or bs 1 0) 1 || eqb (get_or bs 1 0) 2) ≡ false = grind (arith, nat_tests) in
     (2, unknown (value c.args.net.now) bs (omega (arith, ltb-false)) (and_right (eqb (get_or bs 0 0) 2) (eqb (get_or bs 1 0) 1 || eqb (get_or bs 1 0) 2) other))

@@ -22,11 +22,11 @@ whole hand at n rest e h is =
     subst (λ k. (2 + k ≤ length rest → k ≡ hand → link_item hand at rest ≡ got (take k (drop 2 rest)) (at + (2 + k)) (drop (2 + k) rest))) (sym e)
     (λ l d. item-good (2 + word_at rest 0) (cond (eqb (word_at rest 0) hand) 0 9) (take (word_at rest 0) (drop 2 rest)) at rest l (rw (eq-eqb (word_at rest 0) hand d))) h is
 
-pub returns-in-default : goal.returns-in-default
-returns-in-default c =
+pub returns-in_default : goal.returns-in_default
+returns-in_default c =
     let bs : List ℕ = c.args.bytes.now in
     let rest : List ℕ = drop c.args.at bs in
-    let few : length rest < 2 = subst (λ l. length l < 0 + 2) (take_rest bs c.args.at) c.in-default.ensures in
+    let few : length rest < 2 = subst (λ l. length l < 0 + 2) (take_rest bs c.args.at) c.in_default.ensures in
     (_, short c.args.hand c.args.at rest (omega arith))
 
 pub returns-then-rest-end : goal.returns-then-rest-end
@@ -45,8 +45,8 @@ returns-then-count-hand c =
     let count : c.in-Some.count ≡ word_at rest 0 = subst (λ l. c.in-Some.count ≡ word_at l 0) (take_rest bs c.args.at) c.in-Some.ensures.1 in
     (_, unfit c.args.hand c.args.at c.in-Some.count rest count long c.if-count-hand.true)
 
-pub returns-in-default-from-slice : goal.returns-in-default-from-slice
-returns-in-default-from-slice c =
+pub returns-in_default-from_slice : goal.returns-in_default-from_slice
+returns-in_default-from_slice c =
     let bs : List ℕ = c.args.bytes.now in
     let rest : List ℕ = drop c.args.at bs in
     let long : 2 + c.in-Some.count ≤ length rest = subst (λ l. 2 + c.in-Some.count ≤ length l) (take_rest bs c.args.at) c.if-rest-end.false in

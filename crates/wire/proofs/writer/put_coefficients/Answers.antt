@@ -11,17 +11,17 @@ loop-row-preserved c =
     let old : List ℕ = vec_items c.loop-row.out in
     let row = c.row-item.result in
     let count : c.len.result ≡ length (vec_items row) = c.len.ensures ∙ row.ok.0 in
-    written-more vec_items link_bytes (vec_items c.args.out.now) old (vec_items c.extend-from-slice.new.self) c.args.rows.now c.loop-row.row-index row
+    written-more vec_items link_bytes (vec_items c.args.out.now) old (vec_items c.extend_from_slice.new.self) c.args.rows.now c.loop-row.row-index row
     c.loop-row-test.true c.row-item.is c.loop-row.invariant
-    (c.in-ok-extend-from-slice.ensures.items
-    ∙ ap₂ (λ x y. x ++ y) (c.in-ok-put-word.ensures ∙ ap (λ n. old ++ word_bytes n) count) c.deref.ensures.value
+    (c.in_ok-extend_from_slice.ensures.items
+    ∙ ap₂ (λ x y. x ++ y) (c.in_ok-put_word.ensures ∙ ap (λ n. old ++ word_bytes n) count) c.deref.ensures.value
     ∙ append_assoc old (word_bytes (length (vec_items row))) (vec_items row))
 
 pub returns : goal.returns
 returns c = written_all vec_items link_bytes (vec_items c.args.out.now) (vec_items c.loop-row.out) c.args.rows.now c.loop-row.row-index c.loop-row-test.false c.loop-row.invariant
 
-pub overflow-cast-len : goal.overflow-cast-len
-overflow-cast-len c =
+pub overflow_cast-len : goal.overflow_cast-len
+overflow_cast-len c =
     let row = c.row-item.result in
     let short : length (vec_items row) < 65536 =
     subst (λ x. length (vec_items x) < 65536) (sym c.row-item.is)

@@ -10,10 +10,10 @@ pub loop-decoder-preserved : goal.loop-decoder-preserved
 loop-decoder-preserved c =
     let old : List ℕ = vec_items c.loop-decoder.out in
     let d = c.decoder-item.result in
-    written-more reader reader_bytes (vec_items c.args.out.now) old (vec_items c.put-rows.new.out) c.args.decoders.now c.loop-decoder.decoder-index d
+    written-more reader reader_bytes (vec_items c.args.out.now) old (vec_items c.put_rows.new.out) c.args.decoders.now c.loop-decoder.decoder-index d
     c.loop-decoder-test.true c.decoder-item.is c.loop-decoder.invariant
-    (c.in-ok-put-rows.ensures
-    ∙ ap₂ (λ x y. x ++ flat_map (λ row. row) (map vec_items y)) (c.in-ok-put-words.ensures ∙ ap (λ l. old ++ flat_map word_bytes l) c.deref.ensures.value) c.deref-in-loop-decoder.ensures.value
+    (c.in_ok-put_rows.ensures
+    ∙ ap₂ (λ x y. x ++ flat_map (λ row. row) (map vec_items y)) (c.in_ok-put_words.ensures ∙ ap (λ l. old ++ flat_map word_bytes l) c.deref.ensures.value) c.deref-in-loop-decoder.ensures.value
     ∙ append_assoc old (flat_map word_bytes (vec_items d.links)) (flat_map (λ row. row) (map vec_items (vec_items d.rows))))
 
 pub returns : goal.returns

@@ -17,19 +17,19 @@ reads-back : (net : Net) (p : Plan) → Fits (value net) p → (r : Result (Vec 
 reads-back net p fits (Ok v) e = let b = read_back (value net) (accepted net) p fits in (b.0, ap (read_plan (value net)) e ∙ b.1)
 reads-back net p fits (Err x) e = tt
 
-pub write-served-requires : goal.write-served-requires
-write-served-requires c =
+pub write_served-requires : goal.write_served-requires
+write_served-requires c =
     let net = c.args.net.now in
     short-rows (value net) (accepted net) _ (subst (λ x. Fits (value net) (plan x)) c.in-Served.is c.requires).0
 
 pub returns-in-Served : goal.returns-in-Served
 returns-in-Served c =
     let net = c.args.net.now in
-    let bytes = subst (λ x. IfOk c.write-served.result (λ v. vec_items v ≡ plan_bytes (plan x))) (sym c.in-Served.is) c.write-served.ensures in
-    record { bytes = bytes; back = reads-back net (plan c.args.plan.now) c.requires c.write-served.result bytes }
+    let bytes = subst (λ x. IfOk c.write_served.result (λ v. vec_items v ≡ plan_bytes (plan x))) (sym c.in-Served.is) c.write_served.ensures in
+    record { bytes = bytes; back = reads-back net (plan c.args.plan.now) c.requires c.write_served.result bytes }
 
 pub returns-in-Unserved : goal.returns-in-Unserved
 returns-in-Unserved c =
     let net = c.args.net.now in
-    let bytes = subst (λ x. IfOk c.write-cut.result (λ v. vec_items v ≡ plan_bytes (plan x))) (sym c.in-Unserved.is) c.write-cut.ensures in
-    record { bytes = bytes; back = reads-back net (plan c.args.plan.now) c.requires c.write-cut.result bytes }
+    let bytes = subst (λ x. IfOk c.write_cut.result (λ v. vec_items v ≡ plan_bytes (plan x))) (sym c.in-Unserved.is) c.write_cut.ensures in
+    record { bytes = bytes; back = reads-back net (plan c.args.plan.now) c.requires c.write_cut.result bytes }

@@ -8,5 +8,5 @@ joined-parts o o1 o2 o3 o4 w s e e1 e2 e3 e4 = e4 ∙ rw (e3, e2, e1, e)
 
 pub returns : goal.returns
 returns c =
-    joined-parts _ _ _ _ _ _ (side_bytes c.args.side.now) c.new-out.ensures.items c.in-ok-push.ensures.items c.in-ok-push-2.ensures.items c.in-ok-put-word.ensures
-    c.in-ok-put-side.ensures
+    joined-parts _ _ _ _ _ _ (side_bytes c.args.side.now) c.new-out.ensures.items c.in_ok-push.ensures.items c.in_ok-push-2.ensures.items c.in_ok-put_word.ensures
+    c.in_ok-put_side.ensures

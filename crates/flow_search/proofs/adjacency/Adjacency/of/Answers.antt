@@ -10,6 +10,6 @@ returns c =
     let f = c.deref.ensures.value in
     let t = c.deref-2.ensures.value in
     record {
-      out = lists-like _ _ z.nodes _ _ _ (ap length f ∙ long ∙ links-long z) (λ k l. ap (λ x. get_or x k 0) f ∙ sym (from_is z k (omega (arith, ap length f, long)))) c.in-ok-out.ensures;
-      into = lists-like _ _ z.nodes _ _ _ (ap length t ∙ level z ∙ long ∙ links-long z) (λ k l. ap (λ x. get_or x k 0) t ∙ sym (to_is z k (omega (arith, ap length t, level z, long)))) c.in-ok-into.ensures;
+      out = lists-like _ _ z.nodes _ _ _ (ap length f ∙ long ∙ links-long z) (λ k l. ap (λ x. get_or x k 0) f ∙ sym (from_is z k (omega (arith, ap length f, long)))) c.in_ok-out.ensures;
+      into = lists-like _ _ z.nodes _ _ _ (ap length t ∙ level z ∙ long ∙ links-long z) (λ k l. ap (λ x. get_or x k 0) t ∙ sym (to_is z k (omega (arith, ap length t, level z, long)))) c.in_ok-into.ensures;
     }

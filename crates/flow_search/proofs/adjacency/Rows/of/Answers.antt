@@ -3,12 +3,12 @@ use Rattle.flow_search.proofs.Listed.{Listing, listing_none, listing-more, listi
 use Rattle.flow_search.proofs.adjacency.Rows.of.Goals as goal
 
 pub loop-node-init : goal.loop-node-init
-loop-node-init c = listing_none _ _ _ _ (c.in-ok-push.ensures.items ∙ ap (λ l. l ++ 0 ∷ []) c.in-ok-starts.ensures.items) c.in-ok-links.ensures.items
+loop-node-init c = listing_none _ _ _ _ (c.in_ok-push.ensures.items ∙ ap (λ l. l ++ 0 ∷ []) c.in_ok-starts.ensures.items) c.in_ok-links.ensures.items
 
 pub loop-node-preserved : goal.loop-node-preserved
 loop-node-preserved c =
     listing-more _ _ c.loop-node.node c.len.result (vec_items c.loop-node.starts) (vec_items c.loop-node.links) _ _
-    c.in-ok-push-row.ensures c.in-ok-push-2.ensures.items (c.len.ensures ∙ c.push-row.new.links.ok.0) c.loop-node.invariant
+    c.in_ok-push_row.ensures c.in_ok-push-2.ensures.items (c.len.ensures ∙ c.push_row.new.links.ok.0) c.loop-node.invariant
 
 pub returns : goal.returns
 returns c =

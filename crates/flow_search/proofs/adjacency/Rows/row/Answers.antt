@@ -9,11 +9,11 @@ start_is c = start-read c.args.self.now c.args.node _ c.index-start.ensures (ome
 end_is : (c : goal.After-deref) → c.index-end.result.now ≡ start c.args.self.now (c.args.node + 1)
 end_is c = start-read c.args.self.now (c.args.node + 1) _ c.index-end.ensures c.requires.long
 
-pub offset-bounds-deref-start : goal.offset-bounds-deref-start
-offset-bounds-deref-start c = omega (arith, start_is c, c.requires.within.0, c.requires.within.1, c.args.self.now.links.small)
+pub offset_bounds-deref-start : goal.offset_bounds-deref-start
+offset_bounds-deref-start c = omega (arith, start_is c, c.requires.within.0, c.requires.within.1, c.args.self.now.links.small)
 
-pub slice-bounds-result-count : goal.slice-bounds-result-count
-slice-bounds-result-count c = omega (arith, start_is c, end_is c, c.requires.within.0)
+pub slice_bounds-result-count : goal.slice_bounds-result-count
+slice_bounds-result-count c = omega (arith, start_is c, end_is c, c.requires.within.0)
 
 pub returns : goal.returns
 returns c =

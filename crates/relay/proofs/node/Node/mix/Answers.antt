@@ -2,11 +2,11 @@ use Rattle.std.proofs.Common.{◌≡◌, length, arith, rules}
 use Rattle.relay.proofs.Mixes.{row-end, slots_end, mix-is}
 use Rattle.relay.proofs.node.Node.mix.Goals as goal
 
-pub slice-bounds-mix-end : goal.slice-bounds-mix-end
-slice-bounds-mix-end c = omega (arith, row-end c.args.self.now _ c.len-links.ensures c.args.out c.requires, c.deref.ensures.len)
+pub slice_bounds-mix-end : goal.slice_bounds-mix-end
+slice_bounds-mix-end c = omega (arith, row-end c.args.self.now _ c.len-links.ensures c.args.out c.requires, c.deref.ensures.len)
 
-pub slice-bounds-mix-end-2 : goal.slice-bounds-mix-end-2
-slice-bounds-mix-end-2 c = omega (arith, slots_end c.args.self.now _ c.len-links.ensures c.args.round, c.deref-2.ensures.len)
+pub slice_bounds-mix-end-2 : goal.slice_bounds-mix-end-2
+slice_bounds-mix-end-2 c = omega (arith, slots_end c.args.self.now _ c.len-links.ensures c.args.round, c.deref-2.ensures.len)
 
 pub returns : goal.returns
 returns c =

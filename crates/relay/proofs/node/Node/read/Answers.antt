@@ -19,8 +19,8 @@ loop-i-preserved c = (
   λ k h.
       let m = multiple-is c.args.self.now _ c.len.ensures _ c.len-count.ensures c.args.round c.args.j c.loop-i.i c.index.result.now
       c.index-in-loop-i.result.now c.index-in-loop-i-2.result.now k c.requires c.loop-i-test.true c.index.ensures c.index-in-loop-i.ensures c.index-in-loop-i-2.ensures in
-      rw add-one (c.add-multiple.ensures k h ∙ ap₂ bit_xor (c.loop-i.invariant.0 k h) m),
-  c.add-multiple.array_long,
+      rw add-one (c.add_multiple.ensures k h ∙ ap₂ bit_xor (c.loop-i.invariant.0 k h) m),
+  c.add_multiple.array_long,
 )
 
 pub returns : goal.returns

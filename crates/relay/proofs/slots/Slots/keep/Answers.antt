@@ -12,8 +12,8 @@ index-mut-requires-2 c =
     let s = c.args.self in
     omega (arith, slot-within s _ c.len.ensures c.args.round c.args.i (omega (arith, c.requires.link, c.len.ensures)), s.level, c.len.ensures)
 
-pub invariant-of-result : goal.invariant-of-result
-invariant-of-result c =
+pub invariant_of-result : goal.invariant_of-result
+invariant_of-result c =
     let s = c.args.self in (
       s.rising,
       (

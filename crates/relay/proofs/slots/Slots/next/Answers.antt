@@ -2,8 +2,8 @@ use Rattle.std.proofs.Common.{refl, arith}
 use Rattle.relay.proofs.Steps.{next-state, next-counted}
 use Rattle.relay.proofs.slots.Slots.next.Goals as goal
 
-pub invariant-of-result : goal.invariant-of-result
-invariant-of-result c =
+pub invariant_of-result : goal.invariant_of-result
+invariant_of-result c =
     let s = c.args.self in
     (s.rising, (s.few, (s.tagged, (s.level, ((λ j. omega (arith, s.recent j)), (s.bounded, (next-counted s c.requires, tt)))))))
 

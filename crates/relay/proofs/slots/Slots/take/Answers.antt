@@ -3,8 +3,8 @@ use Rattle.relay.proofs.Steps.{slot-within, tag_is, tag-not}
 use Rattle.relay.proofs.Answered.{foreign, over, early, twice, taken}
 use Rattle.relay.proofs.slots.Slots.take.Goals as goal
 
-pub returns-in-default : goal.returns-in-default
-returns-in-default c = record { answer = (foreign c.args.self c.args.link c.args.round _ c.in-default.ensures, refl); ins = refl }
+pub returns-in_default : goal.returns-in_default
+returns-in_default c = record { answer = (foreign c.args.self c.args.link c.args.round _ c.in_default.ensures, refl); ins = refl }
 
 pub returns-then-number-self : goal.returns-then-number-self
 returns-then-number-self c =
@@ -38,13 +38,13 @@ pub returns : goal.returns
 returns c =
     let at = c.in-Some.ensures in
     let k = c.keep.ensures in
-    let e = c.end-rounds-slots.ensures in
+    let e = c.end_rounds-slots.ensures in
     record {
       answer = (
         e.count,
         taken c.args.self c.args.link c.args.round _ c.in-Some.i at.0 at.1 (omega arith) (omega arith)
             (tag-not c.args.self _ c.len.ensures c.args.round _ c.in-Some.i _ c.from-number.ensures at.0 c.index.ensures c.if-index-number.false)
-            c.keep.result c.end-rounds-slots.result.0 c.end-rounds-slots.result.1 k.state k.same.0 k.same.1 e.ends,
+            c.keep.result c.end_rounds-slots.result.0 c.end_rounds-slots.result.1 k.state k.same.0 k.same.1 e.ends,
       );
       ins = e.ins ∙ k.same.0;
     }

@@ -16,8 +16,8 @@ put-requires c =
       few = s.narrow;
     }
 
-pub invariant-of-result : goal.invariant-of-result
-invariant-of-result c =
+pub invariant_of-result : goal.invariant_of-result
+invariant_of-result c =
     let s = c.args.self in (
       s.rising,
       (

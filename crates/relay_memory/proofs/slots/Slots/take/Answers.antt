@@ -4,8 +4,8 @@ use Rattle.relay_memory.proofs.Steps.{slot-within, tag_is, tag-not}
 use Rattle.relay_memory.proofs.Answered.{at-link, foreign, over, early, twice, taken}
 use Rattle.relay_memory.proofs.slots.Slots.take.Goals as goal
 
-pub returns-in-default : goal.returns-in-default
-returns-in-default c = record { answer = (foreign c.args.self c.args.link c.args.round _ (ap (is_in c.args.link) (sym c.deref.ensures.value) ∙ c.in-default.ensures), refl); same = (refl, refl) }
+pub returns-in_default : goal.returns-in_default
+returns-in_default c = record { answer = (foreign c.args.self c.args.link c.args.round _ (ap (is_in c.args.link) (sym c.deref.ensures.value) ∙ c.in_default.ensures), refl); same = (refl, refl) }
 
 pub returns-then-number-self : goal.returns-then-number-self
 returns-then-number-self c =
@@ -39,14 +39,14 @@ pub returns : goal.returns
 returns c =
     let at = at-link c.args.self _ c.deref.ensures.value c.args.link c.in-Some.i c.in-Some.ensures in
     let k = c.keep.ensures in
-    let e = c.end-rounds-slots.ensures in
+    let e = c.end_rounds-slots.ensures in
     record {
       answer = (
         e.count.0,
         omega (arith, e.count.1, k.same.2),
         taken c.args.self c.args.link c.args.round _ c.in-Some.i at.0 at.1 (omega arith) (omega arith)
             (tag-not c.args.self _ c.len.ensures c.args.round _ c.in-Some.i _ c.from-number.ensures at.0 c.index.ensures c.if-index-number.false)
-            c.keep.result c.end-rounds-slots.result.0 c.end-rounds-slots.result.1 k.state k.same.0 k.same.2 e.ends,
+            c.keep.result c.end_rounds-slots.result.0 c.end_rounds-slots.result.1 k.state k.same.0 k.same.2 e.ends,
       );
       same = (e.same.0 ∙ k.same.0, e.same.1 ∙ k.same.1);
     }

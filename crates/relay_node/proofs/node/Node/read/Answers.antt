@@ -8,8 +8,8 @@ use Rattle.relay_node.proofs.node.Node.read.Goals as goal
 pub loop-i-init : goal.loop-i-init
 loop-i-init c = (λ k h. get_or-replicate 1024 k 0 0 h, length-replicate {A = ℕ} 1024 0)
 
-pub overflow-add-j : goal.overflow-add-j
-overflow-add-j c = omega (arith, row_within c.args.self.now _ c.len.ensures _ c.len-count.ensures c.args.j c.loop-i.i c.requires c.loop-i-test.true, c.args.self.now.rows.small)
+pub overflow_add-j : goal.overflow_add-j
+overflow_add-j c = omega (arith, row_within c.args.self.now _ c.len.ensures _ c.len-count.ensures c.args.j c.loop-i.i c.requires c.loop-i-test.true, c.args.self.now.rows.small)
 
 pub index-requires-in-loop-i : goal.index-requires-in-loop-i
 index-requires-in-loop-i c = row_within c.args.self.now _ c.len.ensures _ c.len-count.ensures c.args.j c.loop-i.i c.requires c.loop-i-test.true
@@ -22,8 +22,8 @@ loop-i-preserved c = (
   λ k h.
       let m = multiple-is c.args.self.now _ c.len.ensures _ c.len-count.ensures c.args.round c.args.j c.loop-i.i c.index.result.now
       c.index-in-loop-i.result.now c.index-in-loop-i-2.result.now k c.requires c.loop-i-test.true c.index.ensures c.index-in-loop-i.ensures c.index-in-loop-i-2.ensures in
-      rw add-one (c.add-multiple.ensures k h ∙ ap₂ bit_xor (c.loop-i.invariant.0 k h) m),
-  c.add-multiple.array_long,
+      rw add-one (c.add_multiple.ensures k h ∙ ap₂ bit_xor (c.loop-i.invariant.0 k h) m),
+  c.add_multiple.array_long,
 )
 
 pub returns : goal.returns

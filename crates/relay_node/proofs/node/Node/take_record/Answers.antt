@@ -3,7 +3,7 @@ use Rattle.std.proofs.lemmas.List.{take_rest}
 use Rattle.relay_memory.specs.Values.{state}
 use Rattle.relay_node.proofs.Heads.{word_read, takes-packet, takes-message, takes_none, told}
 use Rattle.relay_node.proofs.node.Node.take_record.Goals as goal
-use Rattle.relay_node.proofs.node.Node.take_record.Goals.{else-bytes-eq-PACKET-RECORD-LENGTH-via-then-bytes-eq-PACKET-RECORD-LENGTH+else-bytes-eq3, else-bytes-eq-PACKET-RECORD-LENGTH-via-else-bytes-eq-PACKET-RECORD-LENGTH, else-bytes-gt4-via-then-bytes-gt4+else-bytes-eq4, else-bytes-gt4-via-else-bytes-gt4}
+use Rattle.relay_node.proofs.node.Node.take_record.Goals.{else-bytes-eq-PACKET_RECORD_LENGTH-via-then-bytes-eq-PACKET-RECORD-LENGTH+else-bytes-eq3, else-bytes-eq-PACKET_RECORD_LENGTH-via-else-bytes-eq-PACKET_RECORD_LENGTH, else-bytes-gt4-via-then-bytes-gt4+else-bytes-eq4, else-bytes-gt4-via-else-bytes-gt4}
 
 pub returns-then-bytes-eq3 : goal.returns-then-bytes-eq3
 returns-then-bytes-eq3 c =
@@ -11,9 +11,9 @@ returns-then-bytes-eq3 c =
     let bs = c.args.bytes.now in
     record {
       answer = told d.slots _ _ _ _
-          (takes-packet d.source d.slots.width (vec_items d.slots.ins) (state d.slots) bs c.word-link.result c.long-at-round.result _ c.if-bytes-eq-PACKET-RECORD-LENGTH.true c.if-bytes-eq3.true
-          (c.word-link.ensures ∙ word_read bs 1) c.long-at-round.ensures (take_rest bs 7)) c.take-bytes.ensures.answer;
-      code = c.take-bytes.ensures.code;
+          (takes-packet d.source d.slots.width (vec_items d.slots.ins) (state d.slots) bs c.word-link.result c.long_at-round.result _ c.if-bytes-eq-PACKET_RECORD_LENGTH.true c.if-bytes-eq3.true
+          (c.word-link.ensures ∙ word_read bs 1) c.long_at-round.ensures (take_rest bs 7)) c.take_bytes.ensures.answer;
+      code = c.take_bytes.ensures.code;
     }
 
 pub returns-then-bytes-eq4 : goal.returns-then-bytes-eq4
@@ -22,9 +22,9 @@ returns-then-bytes-eq4 c =
     let bs = c.args.bytes.now in
     record {
       answer = told d.slots _ _ _ _
-          (takes-message d.source d.slots.width (vec_items d.slots.ins) (state d.slots) bs c.long-at-round-then-bytes-eq4.result _ c.if-bytes-gt4.true c.if-bytes-eq4.true
-          c.long-at-round-then-bytes-eq4.ensures (take_rest bs 5)) c.take-message.ensures.answer;
-      code = c.take-message.ensures.code;
+          (takes-message d.source d.slots.width (vec_items d.slots.ins) (state d.slots) bs c.long_at-round-then-bytes-eq4.result _ c.if-bytes-gt4.true c.if-bytes-eq4.true
+          c.long_at-round-then-bytes-eq4.ensures (take_rest bs 5)) c.take_message.ensures.answer;
+      code = c.take_message.ensures.code;
     }
 
 pub returns : goal.returns
@@ -34,9 +34,9 @@ returns c =
     record {
       answer = (
         sym (takes_none d.source d.slots.width (vec_items d.slots.ins) (state d.slots) bs
-            (λ l k. elim c.else-bytes-eq-PACKET-RECORD-LENGTH.branch [
-              | else-bytes-eq-PACKET-RECORD-LENGTH-via-then-bytes-eq-PACKET-RECORD-LENGTH+else-bytes-eq3 w ↦ w.if-bytes-eq3.false k
-              | else-bytes-eq-PACKET-RECORD-LENGTH-via-else-bytes-eq-PACKET-RECORD-LENGTH w ↦ w.if-bytes-eq-PACKET-RECORD-LENGTH.false l
+            (λ l k. elim c.else-bytes-eq-PACKET_RECORD_LENGTH.branch [
+              | else-bytes-eq-PACKET_RECORD_LENGTH-via-then-bytes-eq-PACKET-RECORD-LENGTH+else-bytes-eq3 w ↦ w.if-bytes-eq3.false k
+              | else-bytes-eq-PACKET_RECORD_LENGTH-via-else-bytes-eq-PACKET_RECORD_LENGTH w ↦ w.if-bytes-eq-PACKET_RECORD_LENGTH.false l
             ])
             (λ l k. elim c.else-bytes-gt4.branch [
               | else-bytes-gt4-via-then-bytes-gt4+else-bytes-eq4 w ↦ w.if-bytes-eq4.false k

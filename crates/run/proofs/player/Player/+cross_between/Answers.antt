@@ -12,9 +12,9 @@ returns-then-end-first-eq1 k c =
 
 pub returns : goal.returns
 returns k c =
-    let a = c.cross-between.ensures.same in
-    let b = c.cross-between-2.ensures.same in
+    let a = c.cross_between.ensures.same in
+    let b = c.cross_between-2.ensures.same in
     record {
-      crosses = crosses_both _ _ _ _ c.args.self c.cross-between.result c.cross-between-2.result c.cross-between.ensures.crosses c.cross-between-2.ensures.crosses;
+      crosses = crosses_both _ _ _ _ c.args.self c.cross_between.result c.cross_between-2.result c.cross_between.ensures.crosses c.cross_between-2.ensures.crosses;
       same = (b.0 ∙ a.0, b.1 ∙ a.1, b.2 ∙ a.2);
     }

@@ -13,11 +13,11 @@ returns c =
     let q = begins-within c.args.net.now c.args.k c.index.result.now c.requires.link c.index.ensures in
     record {
       crosses =
-          crossed c.args.net.now c.args.k c.args.self _ c.packet-over-packet.result c.index.result.now c.index-2.result.now c.requires.link
+          crossed c.args.net.now c.args.k c.args.self _ c.packet_over-packet.result c.index.result.now c.index-2.result.now c.requires.link
           (begins-at c.args.net.now c.args.k c.index.result.now c.requires.link c.index.ensures)
           (ends_at c.args.net.now c.args.k c.index-2.result.now c.requires.link c.index-2.ensures)
           c.requires.early refl
-          (sends-at c.args.self c.args.k c.packet-over-packet.result c.index.result.now c.index-3.result.now (omega (arith, q, c.requires.nodes)) c.index-3.ensures c.packet-over-packet.ensures)
+          (sends-at c.args.self c.args.k c.packet_over-packet.result c.index.result.now c.index-3.result.now (omega (arith, q, c.requires.nodes)) c.index-3.ensures c.packet_over-packet.ensures)
           (c.arrive-nodes.ensures.nodes c.args.self.spare)
           c.count-counts.ensures.items;
       same = (c.arrive-nodes.ensures.len, refl, c.count-counts.ensures.len);

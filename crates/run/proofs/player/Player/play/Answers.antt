@@ -7,12 +7,12 @@ use Rattle.run.proofs.player.Player.play.Goals as goal
 pub returns : goal.returns
 returns c =
     let a = c.open.ensures.same in
-    let b = c.cross-between.ensures.same in
+    let b = c.cross_between.ensures.same in
     let d = c.close.ensures.same in
     record {
       plays = λ cs rs s w long.
           let t = c.open.ensures.opens _ (accepted c.args.net.now) cs rs s w long in
-          let u = crosses-to _ _ _ _ c.open.result c.cross-between.result (c.len-links.ensures ∙ links-long c.args.net.now.network) c.cross-between.ensures.crosses cs rs s _ t.0 t.1 in
+          let u = crosses-to _ _ _ _ c.open.result c.cross_between.result (c.len-links.ensures ∙ links-long c.args.net.now.network) c.cross_between.ensures.crosses cs rs s _ t.0 t.1 in
           let v = c.close.ensures.closes _ (accepted c.args.net.now) cs rs s _ u.0 u.1 in
           (u.0, v.0, v.1);
       delivers = all-out _ (accepted c.args.net.now) c.close.result;
