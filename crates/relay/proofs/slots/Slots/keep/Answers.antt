@@ -2,13 +2,13 @@ use Rattle.std.proofs.Common.{refl, arith}
 use Rattle.relay.proofs.Steps.{slot-within, set_below, kept-state}
 use Rattle.relay.proofs.slots.Slots.keep.Goals as goal
 
-pub index-mut-requires : goal.index-mut-requires
-index-mut-requires c =
+pub index_mut-requires : goal.index_mut-requires
+index_mut-requires c =
     let s = c.args.self in
     omega (arith, slot-within s _ c.len.ensures c.args.round c.args.i (omega (arith, c.requires.link, c.len.ensures)), s.tagged, c.len.ensures)
 
-pub index-mut-requires-2 : goal.index-mut-requires-2
-index-mut-requires-2 c =
+pub index_mut-requires-2 : goal.index_mut-requires-2
+index_mut-requires-2 c =
     let s = c.args.self in
     omega (arith, slot-within s _ c.len.ensures c.args.round c.args.i (omega (arith, c.requires.link, c.len.ensures)), s.level, c.len.ensures)
 
