@@ -17,7 +17,7 @@ use Rattle.coding.specs.Passing.{aim_of, aims_of}
 use Rattle.coding.specs.declared.aim.Aim.{Aim as Target}
 use Rattle.coding.proofs.Linked.{Turn}
 use Rattle.coding.proofs.Turns.{turn-none, turn-off, name_below, turn_level, turn-counted, turn-found, turn_more, all-chosen, all-carried}
-use Rattle.coding.proofs.choose.choose.Goals.{then-j-h+in-ok-push+in-ok-serve, else-j-h}
+use Rattle.coding.proofs.choose.choose.Goals.{then-j-h+in_ok-push+in_ok-serve, else-j-h}
 use Rattle.coding.proofs.choose.choose.Goals as goal
 
 -- the node at which link e begins
@@ -35,7 +35,7 @@ loop-i-init c =
     let got = MatchOption-at_some (32 < c.args.h) (λ v. (v.count ≡ c.args.h) × (v.bytes ≡ replicate 32 0)) c.unwrap-vector.result c.unwrap-vector.ensures c.zero.ensures in
     let begun = turn-none (graph z) (sound z) c.args.h (aims_of c.args.aims.now) c.requires.served e (omega (arith, links-long z, c.requires.link)) (vec_items c.in_ok-names.names) c.index-node.result.now
     (node-is z e c.index-node.result.now c.requires.link c.index-node.ensures) c.in_ok-names.ensures c.unwrap-vector.result got.0 got.1 in
-    subst (λ cs. Turn (graph z) c.args.h (aims_of c.args.aims.now) e 0 cs c.unwrap-vector.result (vec_items c.new-rows.result)) (sym (c.in_ok-coefficients.ensures.items-if-clones-equal (λ y q. q) ∙ ap (λ n. replicate n 0) (c.len.ensures ∙ c.in_ok-names.names.ok.0)))
+    subst (λ cs. Turn (graph z) c.args.h (aims_of c.args.aims.now) e 0 cs c.unwrap-vector.result (vec_items c.new-rows.result)) (sym (c.in_ok-coefficients.ensures.items_if_clones_equal (λ y q. q) ∙ ap (λ n. replicate n 0) (c.len.ensures ∙ c.in_ok-names.names.ok.0)))
     (subst (λ rows. Turn (graph z) c.args.h (aims_of c.args.aims.now) e 0 (replicate (length (vec_items c.in_ok-names.names)) 0) c.unwrap-vector.result rows) (sym c.new-rows.ensures.items) begun)
 
 pub offset_bounds-receivers-i : goal.offset_bounds-receivers-i
@@ -103,7 +103,7 @@ loop-i-preserved c =
     let i = c.loop-i.i in
     let at_place = place_is as' i e c.place-j.result c.index-aims-i.result c.loop-i-test.true (c.place-j.ensures ∙ ap (λ q. place e (map vec_items q)) c.deref.ensures.value) in
     elim c.if-j-h.branch [
-      | then-j-h+in-ok-push+in-ok-serve w ↦
+      | then-j-h+in_ok-push+in_ok-serve w ↦
           let node = c.index-node.result.now in
           let x = w.row_of.result in
           let rows : w.deref-then-j-h.result.now ≡ vec_items c.loop-i.rows ++ x ∷ [] = w.deref-then-j-h.ensures.value ∙ w.in_ok-push.ensures.items in

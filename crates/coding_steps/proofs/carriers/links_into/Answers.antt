@@ -5,7 +5,7 @@ use Rattle.network.specs.Values.{graph}
 use Rattle.network.proofs.Sound.{level, links-long, to_is}
 use Rattle.coding_theory.specs.Coding.{link, incoming}
 use Rattle.coding_steps.proofs.AtHand.{into-here, into-there}
-use Rattle.coding_steps.proofs.carriers.links_into.Goals.{then-index-node+in-ok-push, else-index-node}
+use Rattle.coding_steps.proofs.carriers.links_into.Goals.{then-index-node+in_ok-push, else-index-node}
 use Rattle.coding_steps.proofs.carriers.links_into.Goals as goal
 
 pub loop-k-init : goal.loop-k-init
@@ -21,7 +21,7 @@ loop-k-preserved c =
     let to : (link_at ls k).to ≡ c.index.result.now =
     to_is z k (omega (arith, c.requires)) ∙ get_or_default (vec_items z.to) k 0 c.index.result.now (omega (arith, level z, z.from.ok.0, c.requires)) ∙ sym c.index.ensures in
     elim c.if-index-node.branch [
-      | then-index-node+in-ok-push w ↦
+      | then-index-node+in_ok-push w ↦
           rw w.names-is
           (ap (map link) w.in_ok-push.ensures.items ∙ into-here c.args.node ls k lk (vec_items c.loop-k.names) c.loop-k.invariant (to ∙ w.if-index-node.true))
       | else-index-node w ↦ rw w.names-is (into-there c.args.node ls k lk (vec_items c.loop-k.names) c.loop-k.invariant (λ e. w.if-index-node.false (sym to ∙ e)))

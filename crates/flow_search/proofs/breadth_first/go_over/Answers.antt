@@ -4,7 +4,7 @@ use Rattle.flow_theory.specs.Flow.{flagged, go_on, Way, start}
 use Rattle.flow_search.specs.Queue.{ways_of}
 use Rattle.flow_search.proofs.Queued.{Kept, kept-other, kept-marked, kept_new, ways-length}
 use Rattle.flow_search.proofs.breadth_first.go_over.Goals as goal
-use Rattle.flow_search.proofs.breadth_first.go_over.Goals.{then-used-k+then-not-marks-node+in-ok-push, else-used-k, else-used-k-via-then-used-k+else-not-marks-node, else-used-k-via-else-used-k}
+use Rattle.flow_search.proofs.breadth_first.go_over.Goals.{then-used-k+then-not-marks-node+in_ok-push, else-used-k, else-used-k-via-then-used-k+else-not-marks-node, else-used-k-via-else-used-k}
 
 pub loop-link-init : goal.loop-link-init
 unfolding flagged go_on
@@ -21,7 +21,7 @@ loop-link-preserved c =
     let marked : get_or ends (get_or row j 0) 0 < 256 = c.requires.ends (get_or row j 0) (omega (arith, c.requires.level)) in
     let place : c.args.place < length ws = omega (arith, ways-length (vec_items c.args.order.now), c.requires.place, c.args.order.now.ok.0) in
     elim c.if-used-k.branch [
-      | then-used-k+then-not-marks-node+in-ok-push w ↦
+      | then-used-k+then-not-marks-node+in_ok-push w ↦
           subst₂ (Kept (length used) (λ k. get_or ends k 0) used c.args.back row c.args.place ws (j + 1)) (sym (ap vec_items w.order-is ∙ w.in_ok-push.ensures.items)) (sym w.marks-is)
           (kept_new _ _ _ _ _ _ _ j c.loop-link-test.true _ _ c.loop-link.invariant place w.if-used-k.true below (omega arith) w.if-not-marks-node.true)
       | else-used-k w ↦

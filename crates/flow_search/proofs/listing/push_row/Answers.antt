@@ -2,7 +2,7 @@ use Rattle.std.proofs.Common.{ℕ, List, [], ◌∷◌, ◌++◌, get_or, vec_it
 use Rattle.flow_theory.specs.Flow.{listed}
 use Rattle.flow_search.proofs.Listed.{listed_more, listed_same}
 use Rattle.flow_search.proofs.listing.push_row.Goals as goal
-use Rattle.flow_search.proofs.listing.push_row.Goals.{then-end-node+in-ok-push, else-end-node}
+use Rattle.flow_search.proofs.listing.push_row.Goals.{then-end-node+in_ok-push, else-end-node}
 
 pub loop-k-init : goal.loop-k-init
 unfolding listed
@@ -14,7 +14,7 @@ loop-k-preserved c =
     let end : ℕ → ℕ = λ j. get_or c.args.ends.now j 0 in
     let old : List ℕ = vec_items c.args.links.now in
     elim c.if-end-node.branch [
-      | then-end-node+in-ok-push w ↦
+      | then-end-node+in_ok-push w ↦
           ap vec_items w.links-is ∙ w.in_ok-push.ensures.items ∙ ap (λ l. l ++ k ∷ []) c.loop-k.invariant
           ∙ append_assoc old (listed end c.args.node k) (k ∷ [])
           ∙ ap (λ l. old ++ l) (sym (listed_more end c.args.node k w.if-end-node.true))

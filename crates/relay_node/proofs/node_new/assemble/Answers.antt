@@ -33,16 +33,7 @@ invariant_of-result c =
     let coeffs = c.in_ok-coefficients.ensures ∙ ap (λ ks. flat_map (λ q. q) (picked (map vec_items (vec_items code.coefficients)) ks)) (c.deref-3.ensures.value ∙ go) in
     let cur = c.in_ok-current.ensures.current
     ∙ ap₂ (λ is qs. current is (reader_for p qs (map reader (vec_items code.receivers))).links) (c.deref-5.ensures.value ∙ come) c.deref-4.ensures.value in
-    let rows = c.in_ok-current.ensures.rows ∙ ap (λ qs. flat_map (λ q. q) (reader_for p qs (map reader (vec_items code.receivers))).rows) c.deref-4.ensures.value in (
-      outs-rise net p c.in_ok-outs.outs go,
-      (
-        coded_so net code c.requires p slots s.1 s.2 c.in_ok-outs.outs c.in_ok-coefficients.coefficients go coeffs,
-        (
-          within-so net code c.requires p slots s.1 s.2 c.in_ok-current.current cur,
-          (square-so net code c.requires p c.in_ok-current.current c.in_ok-current.rows cur rows, (single-so net code c.requires p slots s.1 s.2, tt)),
-        ),
-      ),
-    )
+    let rows = c.in_ok-current.ensures.rows ∙ ap (λ qs. flat_map (λ q. q) (reader_for p qs (map reader (vec_items code.receivers))).rows) c.deref-4.ensures.value in record { apart = outs-rise net p c.in_ok-outs.outs go; coded = coded_so net code c.requires p slots s.1 s.2 c.in_ok-outs.outs c.in_ok-coefficients.coefficients go coeffs; within = within-so net code c.requires p slots s.1 s.2 c.in_ok-current.current cur; square = square-so net code c.requires p c.in_ok-current.current c.in_ok-current.rows cur rows; single = single-so net code c.requires p slots s.1 s.2 }
 
 pub returns : goal.returns
 returns c =

@@ -62,5 +62,5 @@ returns c =
     let long : 2 + n ≤ length rest = subst (λ l. 2 + n ≤ length l) (take_rest bs at) c.if-rest-end.false in
     let count : n ≡ word_at rest 0 = subst (λ l. n ≡ word_at l 0) (take_rest bs at) c.in-Some.ensures.1 in
     let size : 2 + n - 2 ≡ n = omega arith in
-    let row : vec_items c.in-Ok.row ≡ take n (drop 2 rest) = c.in-Ok.ensures.made.0 ∙ ap₂ (λ k l. take k (drop 2 l)) size (take_rest bs at) in
+    let row : vec_items c.in-Ok.row ≡ take n (drop 2 rest) = c.in-Ok.ensures.items ∙ ap₂ (λ k l. take k (drop 2 l)) size (take_rest bs at) in
     (whole c.args.hand at n rest count long c.if-count-hand.false ∙ ap₂ (λ x l. got x (at + (2 + n)) l) (sym row) (drop-drop (2 + n) at bs), omega (arith, length-drop at bs, c.requires))

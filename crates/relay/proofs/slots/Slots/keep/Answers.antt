@@ -14,22 +14,7 @@ index_mut-requires-2 c =
 
 pub invariant_of-result : goal.invariant_of-result
 invariant_of-result c =
-    let s = c.args.self in (
-      s.rising,
-      (
-        s.few,
-        (
-          s.tagged,
-          (
-            s.level,
-            (
-              set_below _ _ _ _ (omega (arith, c.from.ensures, c.requires.window)) s.recent,
-              (set_below _ _ _ _ (omega (arith, c.from.ensures, c.ranges.round.fits)) s.bounded, (s.counted, tt)),
-            ),
-          ),
-        ),
-      ),
-    )
+    let s = c.args.self in record { rising = s.rising; few = s.few; tagged = s.tagged; level = s.level; recent = set_below _ _ _ _ (omega (arith, c.from.ensures, c.requires.window)) s.recent; bounded = set_below _ _ _ _ (omega (arith, c.from.ensures, c.ranges.round.fits)) s.bounded; counted = s.counted }
 
 pub returns : goal.returns
 returns c =

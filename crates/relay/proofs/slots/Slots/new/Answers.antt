@@ -6,8 +6,8 @@ pub invariant_of-result : goal.invariant_of-result
 invariant_of-result c =
     let tagged : vec_len c.in_ok-tags.tags ≡ 3 * vec_len c.args.ins = omega (arith, c.in_ok-tags.ensures.len, c.len-count.ensures) in
     let level : vec_len c.in_ok-packets.packets ≡ 3 * vec_len c.args.ins = omega (arith, c.in_ok-packets.ensures.len, c.len-count.ensures) in
-    let none = zeros _ _ (c.in_ok-tags.ensures.items-if-clones-equal (λ y e. e)) in
-    (c.requires.rising, (c.requires.few, (tagged, (level, ((λ j. omega (arith, none j)), ((λ j. omega (arith, none j)), (omega arith, tt)))))))
+    let none = zeros _ _ (c.in_ok-tags.ensures.items_if_clones_equal (λ y e. e)) in
+    record { rising = c.requires.rising; few = c.requires.few; tagged = tagged; level = level; recent = (λ j. omega (arith, none j)); bounded = (λ j. omega (arith, none j)); counted = omega arith }
 
 pub returns : goal.returns
-returns c = (held-fresh _ _ _ (zeros _ _ (c.in_ok-tags.ensures.items-if-clones-equal (λ y e. e))), refl)
+returns c = (held-fresh _ _ _ (zeros _ _ (c.in_ok-tags.ensures.items_if_clones_equal (λ y e. e))), refl)

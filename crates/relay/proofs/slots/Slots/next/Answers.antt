@@ -5,7 +5,7 @@ use Rattle.relay.proofs.slots.Slots.next.Goals as goal
 pub invariant_of-result : goal.invariant_of-result
 invariant_of-result c =
     let s = c.args.self in
-    (s.rising, (s.few, (s.tagged, (s.level, ((λ j. omega (arith, s.recent j)), (s.bounded, (next-counted s c.requires, tt)))))))
+    record { rising = s.rising; few = s.few; tagged = s.tagged; level = s.level; recent = (λ j. omega (arith, s.recent j)); bounded = s.bounded; counted = next-counted s c.requires }
 
 pub returns : goal.returns
 returns c = record { state = next-state c.args.self; kept = (refl, refl, refl) }

@@ -2,8 +2,8 @@ use Rattle.std.proofs.Common.{refl, ◌∙◌, arith}
 use Rattle.relay_memory.proofs.Steps.{slot-within, packets-end, set_below, kept-state}
 use Rattle.relay_memory.proofs.slots.Slots.keep.Goals as goal
 
-pub index-mut-requires : goal.index-mut-requires
-index-mut-requires c =
+pub index_mut-requires : goal.index_mut-requires
+index_mut-requires c =
     let s = c.args.self in
     omega (arith, slot-within s _ c.len.ensures c.args.round c.args.i (omega (arith, c.requires.link, c.len.ensures)), s.tagged, c.len.ensures)
 
@@ -18,25 +18,7 @@ put-requires c =
 
 pub invariant_of-result : goal.invariant_of-result
 invariant_of-result c =
-    let s = c.args.self in (
-      s.rising,
-      (
-        s.few,
-        (
-          s.narrow,
-          (
-            s.tagged,
-            (
-              c.put.ensures.len ∙ s.level,
-              (
-                set_below _ _ _ _ (omega (arith, c.from.ensures, c.requires.window)) s.recent,
-                (set_below _ _ _ _ (omega (arith, c.from.ensures, c.ranges.round.fits)) s.bounded, (s.counted, tt)),
-              ),
-            ),
-          ),
-        ),
-      ),
-    )
+    let s = c.args.self in record { rising = s.rising; few = s.few; narrow = s.narrow; tagged = s.tagged; level = c.put.ensures.len ∙ s.level; recent = set_below _ _ _ _ (omega (arith, c.from.ensures, c.requires.window)) s.recent; bounded = set_below _ _ _ _ (omega (arith, c.from.ensures, c.ranges.round.fits)) s.bounded; counted = s.counted }
 
 pub returns : goal.returns
 returns c =

@@ -3,7 +3,7 @@ use Rattle.std.proofs.lemmas.List.{take_rest}
 use Rattle.relay_memory.specs.Values.{state}
 use Rattle.relay_node.proofs.Heads.{word_read, takes-packet, takes-message, takes_none, told}
 use Rattle.relay_node.proofs.node.Node.take_record.Goals as goal
-use Rattle.relay_node.proofs.node.Node.take_record.Goals.{else-bytes-eq-PACKET_RECORD_LENGTH-via-then-bytes-eq-PACKET-RECORD-LENGTH+else-bytes-eq3, else-bytes-eq-PACKET_RECORD_LENGTH-via-else-bytes-eq-PACKET_RECORD_LENGTH, else-bytes-gt4-via-then-bytes-gt4+else-bytes-eq4, else-bytes-gt4-via-else-bytes-gt4}
+use Rattle.relay_node.proofs.node.Node.take_record.Goals.{else-bytes-eq-PACKET_RECORD_LENGTH-via-then-bytes-eq-PACKET_RECORD_LENGTH+else-bytes-eq3, else-bytes-eq-PACKET_RECORD_LENGTH-via-else-bytes-eq-PACKET_RECORD_LENGTH, else-bytes-gt4-via-then-bytes-gt4+else-bytes-eq4, else-bytes-gt4-via-else-bytes-gt4}
 
 pub returns-then-bytes-eq3 : goal.returns-then-bytes-eq3
 returns-then-bytes-eq3 c =
@@ -35,7 +35,7 @@ returns c =
       answer = (
         sym (takes_none d.source d.slots.width (vec_items d.slots.ins) (state d.slots) bs
             (λ l k. elim c.else-bytes-eq-PACKET_RECORD_LENGTH.branch [
-              | else-bytes-eq-PACKET_RECORD_LENGTH-via-then-bytes-eq-PACKET-RECORD-LENGTH+else-bytes-eq3 w ↦ w.if-bytes-eq3.false k
+              | else-bytes-eq-PACKET_RECORD_LENGTH-via-then-bytes-eq-PACKET_RECORD_LENGTH+else-bytes-eq3 w ↦ w.if-bytes-eq3.false k
               | else-bytes-eq-PACKET_RECORD_LENGTH-via-else-bytes-eq-PACKET_RECORD_LENGTH w ↦ w.if-bytes-eq-PACKET_RECORD_LENGTH.false l
             ])
             (λ l k. elim c.else-bytes-gt4.branch [
