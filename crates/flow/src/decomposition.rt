@@ -43,7 +43,7 @@ fn follow(
     requires level { length used.old ≡ vec_len network.now.from }
     requires node { node < network.now.nodes }
     ensures path { OnOk result (path.new.items ≡ path.old.items ++ followed (graph network.now).links receiver (used_count used.old) node used.old) }
-    ensures used { made result (λ _. used.new ≡ turn_all (followed (graph network.now).links receiver (used_count used.old) node used.old) used.old) }
+    ensures used { OnOk result (used.new ≡ turn_all (followed (graph network.now).links receiver (used_count used.old) node used.old) used.old) }
 {
     if node == receiver {
         return Ok(());
