@@ -45,13 +45,13 @@ code-requires c =
       away = subst (λ l. Away (aims_of l)) same (none-at-source m (aims_of aims) found);
     }
 
-pub returns-in_ok-coded : goal.returns-in_ok-coded
-returns-in_ok-coded c =
+pub returns-in_ok-coded-in-Paths : goal.returns-in_ok-coded-in-Paths
+returns-in_ok-coded-in-Paths c =
     let m = c.args.net.now in
     let aims = vec_items c.in-Paths.aims in
     let e = subst (λ x. Finds x (route (graph m.network) m.rate (vec_items m.receivers))) c.in-Paths.is c.in_ok-aims.ensures.exact in
-    let coded = c.in_ok-coded.coded in
-    let means = subst (λ l. Means m.rate coded (code byte_field (graph m.network) m.rate (aims_of l))) c.deref.ensures.value c.in_ok-coded.ensures in
+    let coded = c.in_ok-coded-in-Paths.coded in
+    let means = subst (λ l. Means m.rate coded (code byte_field (graph m.network) m.rate (aims_of l))) c.deref.ensures.value c.in_ok-coded-in-Paths.ensures in
     let exact : served (map vec_items (vec_items coded.coefficients)) (map reader (vec_items coded.receivers)) ≡ plan_of (value m) =
     ap₂ served means.coefficients (same-readers m.rate (vec_items coded.receivers) (code byte_field (graph m.network) m.rate (aims_of aims)).receivers means.all means.receivers)
     ∙ ap (planned (graph m.network) m.rate) (sym e) in

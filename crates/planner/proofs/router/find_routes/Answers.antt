@@ -35,7 +35,7 @@ loop-i-preserved c =
     let node-is : node ≡ get_or ps i 0 = get_or_read_under ps i (vec_len m.receivers) node 0 c.index-node.ensures (omega (arith, c.len-i-end.ensures)) m.receivers.ok.0 in
     let ws : List (List ℕ) = map vec_items (vec_items c.in-Paths.paths) in
     let so_far = far-more z m.rate ps (aims_of (vec_items c.loop-i.aims)) i ws inside (ap (paths_or_cut z m.rate) (sym node-is) ∙ subst (λ f. Means f (paths_or_cut z m.rate node)) c.in-Paths.is c.in-Ok.ensures.exact) c.loop-i.invariant in
-    let pushed = c.in_ok-push.ensures.items in
+    let pushed = c.in_ok-push-in-Paths.ensures.items in
     let aims : aims_of (vec_items c.push.new.self) ≡ aims_of (vec_items c.loop-i.aims) ++ record { node = get_or ps i 0; paths = ws } ∷ [] =
     ap aims_of pushed ∙ map_push aim_of (vec_items c.loop-i.aims) _ ∙ ap (λ p. aims_of (vec_items c.loop-i.aims) ++ record { node = p; paths = ws } ∷ []) node-is in
     subst (λ as'. So-far z m.rate ps as' (i + 1)) (sym aims) so_far
