@@ -12,8 +12,8 @@ returns c =
     record {
       started =
           started _ (accepted c.args.net.now) _ filled.0 refl
-          (c.in-Ok.ensures.exact (λ y e. e) ∙ ap (λ n. replicate n 0) (c.len.ensures ∙ links-long c.args.net.now.network))
+          (c.in-Ok.ensures.items_if_clones_equal (λ y e. e) ∙ ap (λ n. replicate n 0) (c.len.ensures ∙ links-long c.args.net.now.network))
           _ filled.1;
       promise = λ e. subst (AtWork (value c.args.net.now)) (sym e) (plan-delivers (value c.args.net.now) (accepted c.args.net.now));
-      len = (omega (arith, filled.0, c.in_ok-nodes.nodes.ok.0), refl, c.in-Ok.ensures.made.1 ∙ c.len.ensures);
+      len = (omega (arith, filled.0, c.in_ok-nodes.nodes.ok.0), refl, c.in-Ok.ensures.len ∙ c.len.ensures);
     }
