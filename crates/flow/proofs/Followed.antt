@@ -8,7 +8,7 @@ use Rattle.network.specs.Values.{graph}
 use Rattle.network.specs.declared.net.Network.{Network as Columns}
 use Rattle.network.proofs.Sound.{to_is, links-long}
 use Rattle.flow_theory.specs.Flow.{is_used, out_of, flagged, turn, turn_all, used_count, lowest, follow, parted}
-use Rattle.flow_theory.proofs.Lists.{Every, listed-every, flagged-every, same-beq}
+use Rattle.flow_theory.proofs.Lists.{Every, listed-every, flagged-every}
 use Rattle.flow_theory.proofs.Follow.{Out, count_less}
 
 -- the first used link of a list

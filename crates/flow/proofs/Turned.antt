@@ -1,13 +1,13 @@
 -- Paths one after the other: where the receiver stands in the queue, the links that led there, and what turning them gives.
-use Rattle.std.proofs.Common.{◌≡◌, ℕ, zero, suc, ◌+◌, ◌-◌, ◌<◌, ◌≤◌, Bool, true, false, cond, not, ◌||◌, eqb, List, [], ◌∷◌, ◌++◌, length, get_or, sym, refl, ap, ◌∙◌, subst, inl, inr, add-one, arith, length-append}
+use Rattle.std.proofs.Common.{◌≡◌, ℕ, zero, suc, ◌+◌, ◌<◌, ◌≤◌, Bool, true, false, List, [], ◌∷◌, ◌++◌, length, get_or, sym, refl, ap, ◌∙◌, inl, inr, arith, length-append}
 use Rattle.std.proofs.lemmas.List.{get_or_append_left, get_or_push, get_or_past}
-use Rattle.std.proofs.lemmas.Bool.{cases_lt, cases_Bool, both_ways, eq-eqb, ne_eqb}
+use Rattle.std.proofs.lemmas.Bool.{cases_lt, cases_Bool, eq-eqb, ne_eqb}
 use Rattle.network.specs.Network.{Network, Sound}
-use Rattle.flow_theory.specs.Flow.{is_used, Way, start, is_reached, links_to, reached, turn, turn_all, parted, augment, Found, paths, cut}
+use Rattle.flow_theory.specs.Flow.{Way, start, is_reached, links_to, reached, turn, turn_all, augment, cut}
 use Rattle.flow_theory.specs.Order.{Walk}
 use Rattle.flow_theory.proofs.Search.{place}
 use Rattle.flow_theory.proofs.Stands.{first_found}
-use Rattle.flow_search.specs.Queue.{reached_at, ways_on, ways_of, Marked, Linked, Sought}
+use Rattle.flow_search.specs.Queue.{reached_at, ways_on, ways_of, Marked, Sought}
 use Rattle.flow.specs.Augment.{StandsAt, Marks}
 use Rattle.flow_search.specs.declared.reached.Reached.{Reached}
 use Rattle.flow_search.proofs.Queued.{ways-length}

@@ -1,13 +1,13 @@
 -- The queue, as the code keeps it: a node, the link over which it was reached, and the place of the node before it.
 -- The ways follow from these. One turn of the loop over links adds a way just where the definition does.
-use Rattle.std.proofs.Common.{◌≡◌, ℕ, zero, suc, ◌+◌, ◌<◌, ◌≤◌, Bool, true, false, cond, ◌||◌, eqb, List, [], ◌∷◌, ◌++◌, length, get_or, take, set, sym, refl, ap, ◌∙◌, subst, inl, inr, arith, length-append, length-set, get_or-set_other, get_or-set_same}
+use Rattle.std.proofs.Common.{◌≡◌, ℕ, ◌+◌, ◌<◌, ◌≤◌, Bool, true, false, cond, ◌||◌, eqb, List, [], ◌∷◌, ◌++◌, length, get_or, take, set, sym, refl, ap, ◌∙◌, inl, inr, arith, length-append, length-set, get_or-set_other, get_or-set_same}
 use mathlib.Core.Bool.{beq}
 use Rattle.std.proofs.lemmas.List.{take_more, get_or_append_left, get_or_push}
 use Rattle.std.proofs.lemmas.Bool.{cases_lt, cases_eq, eq-eqb, ne_eqb, cond_both}
 use Rattle.flow_theory.specs.Flow.{is_used, flagged, Way, start, is_reached, add, go_on}
 use Rattle.flow_theory.proofs.Search.{on, go-keeps}
-use Rattle.flow_theory.proofs.Lists.{Every, same-beq, beq_same}
-use Rattle.flow_search.specs.Queue.{reached_at, ways_on, ways_of, Marked, Linked, Queued, Bounded}
+use Rattle.flow_theory.proofs.Lists.{Every}
+use Rattle.flow_search.specs.Queue.{ways_on, ways_of, Marked, Linked, Queued}
 use Rattle.flow_search.specs.declared.reached.Reached.{Reached}
 
 -- ways

@@ -1,12 +1,12 @@
 -- The search turn by turn: what is left of it is always what the whole gives. It may stop when the receiver is reached,
 -- since a node that is reached keeps its links.
 use Rattle.std.proofs.Common.{◌≡◌, ℕ, zero, suc, ◌+◌, ◌-◌, ◌<◌, ◌≤◌, Bool, true, false, cond, ◌||◌, eqb, ltb, List, [], ◌∷◌, ◌++◌, length, get_or, set, replicate, sym, refl, ap, ◌∙◌, inl, inr, add-one, arith, length-append, length-set, get_or-set_other, get_or-set_same}
-use Rattle.std.proofs.lemmas.List.{get_or_append_left, get_or_push, get_or-replicate}
-use Rattle.std.proofs.lemmas.Bool.{both_ways, cases_lt, cases_eq, cond_both, lt-ltb, le-ltb, eq-eqb, ne_eqb}
-use Rattle.network.specs.Network.{Link, Network, Sound, link_at}
-use Rattle.flow_theory.specs.Flow.{Way, start, is_reached, links_to, add, go_on, over, steps, onward, search, reached}
+use Rattle.std.proofs.lemmas.List.{get_or_append_left, get_or_push}
+use Rattle.std.proofs.lemmas.Bool.{both_ways, cases_lt, cond_both, lt-ltb, le-ltb, ne_eqb}
+use Rattle.network.specs.Network.{Link, Network, Sound}
+use Rattle.flow_theory.specs.Flow.{Way, start, is_reached, links_to, add, over, steps, onward, search, reached}
 use Rattle.flow_theory.specs.Order.{Goes}
-use Rattle.flow_theory.proofs.Lists.{Every, every_map, steps-go}
+use Rattle.flow_theory.proofs.Lists.{steps-go}
 use Rattle.flow_theory.proofs.Search.{Has, on, add-keeps, go-keeps}
 use Rattle.flow_search.specs.Queue.{ways_on, ways_of, Marked, Queued, Bounded, Sought}
 use Rattle.flow_search.specs.declared.reached.Reached.{Reached}

@@ -1,5 +1,5 @@
 -- All steps from a node: its two lists, gone through one after the other, are the steps of the definition.
-use Rattle.std.proofs.Common.{◌≡◌, ℕ, zero, suc, ◌+◌, ◌<◌, ◌≤◌, Bool, true, false, cond, List, [], ◌∷◌, ◌++◌, map, length, get_or, vec_items, vec_len, sym, refl, ap, ◌∙◌, subst, append_assoc, append-nil, arith}
+use Rattle.std.proofs.Common.{◌≡◌, ℕ, zero, suc, ◌<◌, Bool, true, false, List, [], ◌∷◌, ◌++◌, map, length, get_or, vec_items, vec_len, sym, refl, ap, ◌∙◌, append_assoc, append-nil, arith}
 use Rattle.std.proofs.lemmas.List.{get_or-map, get_or_read_under, map-append}
 use Rattle.network.specs.Network.{Link, link_at}
 use Rattle.network.specs.Values.{graph}
@@ -8,9 +8,7 @@ use Rattle.network.proofs.Sound.{from_is, to_is, links-long}
 use Rattle.flow_theory.specs.Flow.{is_used, listed, out_of, into_of, flagged, over, Way, start, add, go_on, onward}
 use Rattle.flow_theory.proofs.Lists.{Every, every_map, listed-every, flagged-every}
 use Rattle.flow_theory.proofs.Search.{on}
-use Rattle.flow_search.specs.Rows.{Lists, start as start_of, row_of}
 use Rattle.flow_search.specs.Queue.{reached_at, ways_on, ways_of, Bounded}
-use Rattle.flow_search.specs.declared.adjacency.Rows.{Rows}
 use Rattle.flow_search.specs.declared.reached.Reached.{Reached}
 use Rattle.flow_search.proofs.Queued.{go-append, go-longer, ways-length}
 

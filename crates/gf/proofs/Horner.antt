@@ -1,7 +1,7 @@
 -- Horner's rule for any product with x, `up`, that keeps sums: it keeps sums in each factor, the product with x passes
 -- through it, and bits past the last one add nothing. Each law goes by induction over the number of bits; two sums of
 -- two are then regrouped. Because extra bits add nothing, a number serves as its own count of bits (the laws `whole-`).
-use Rattle.std.proofs.Common.{◌≡◌, ℕ, zero, suc, ◌+◌, ◌-◌, ◌*◌, ◌/◌, ◌%◌, ◌^◌, ◌<◌, sym, refl, ap, ◌∙◌, ap₂, lt_of_lt_of_le, add_comm, suc-add, pow-suc, zero-add, zero-mul, mul-div_cancel, arith, lit<, pow_pos, pow_mono}
+use Rattle.std.proofs.Common.{◌≡◌, ℕ, zero, suc, ◌+◌, ◌*◌, ◌/◌, ◌%◌, ◌^◌, ◌<◌, sym, refl, ap, ◌∙◌, ap₂, lt_of_lt_of_le, add_comm, suc-add, pow-suc, zero-add, zero-mul, mul-div_cancel, arith, lit<, pow_pos, pow_mono}
 use native.Mathlib.Nat.{mul-mod_left}
 use lib.Arith.{lt-one}
 use lib.Bits.{bit_xor, xor_shr, xor_mod, xor_lt, xor_zero_r}

@@ -2,7 +2,7 @@
 -- Each law of the product is one of Horner's rule with doubling for the product with x. Commutativity and the unit
 -- go by induction over the bits of one factor. The degree of a product is the sum of the degrees, since the top bit
 -- of the product is that of one factor, shifted by the degree of the other.
-use Rattle.std.proofs.Common.{◌≡◌, ℕ, zero, suc, ◌+◌, ◌-◌, ◌*◌, ◌/◌, ◌%◌, ◌^◌, ◌<◌, ◌≤◌, sym, refl, ap, ◌∙◌, ap₂, add-zero, add-suc, mul_assoc, one-mul, pow-suc, div-add-mod', le-div_iff_mul-le, mul-one, arith, pow_pos, pow_mono}
+use Rattle.std.proofs.Common.{◌≡◌, ℕ, zero, suc, ◌+◌, ◌*◌, ◌/◌, ◌%◌, ◌^◌, ◌<◌, ◌≤◌, sym, refl, ap, ◌∙◌, ap₂, add-zero, add-suc, mul_assoc, one-mul, pow-suc, div-add-mod', le-div_iff_mul-le, mul-one, arith, pow_pos, pow_mono}
 use native.Mathlib.Nat.{div-eq_of_lt}
 use lib.Arith.{bin_ind}
 use lib.Bits.{bit_xor, xor_shr, xor_zero_r, xor_shifted}

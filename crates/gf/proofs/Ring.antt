@@ -1,7 +1,7 @@
 -- The numbers below 2 ^ d, added by bit_xor and multiplied modulo any polynomial p of degree d ≥ 1, are a commutative ring.
 -- A number is its half, times x, plus its lowest bit. Along that the factors are exchanged, which gives commutativity;
 -- with it the product with x passes through either factor, which gives associativity. All else is Horner's rule.
-use Rattle.std.proofs.Common.{◌≡◌, ℕ, zero, suc, ◌+◌, ◌-◌, ◌*◌, ◌/◌, ◌%◌, ◌^◌, ◌<◌, ◌≤◌, sym, ap, ◌∙◌, subst, ap₂, le_refl, mod-lt, mod-eq_of_lt, div-lt_iff_lt-mul, one-mul, pow-suc, div-add-mod', le-div_iff_mul-le, zero-add, zero-mul, mul-one as times-one, arith, pow_pos, pow_mono}
+use Rattle.std.proofs.Common.{◌≡◌, ℕ, zero, suc, ◌+◌, ◌*◌, ◌/◌, ◌%◌, ◌^◌, ◌<◌, ◌≤◌, sym, ap, ◌∙◌, subst, ap₂, le_refl, mod-lt, mod-eq_of_lt, div-lt_iff_lt-mul, one-mul, pow-suc, div-add-mod', le-div_iff_mul-le, zero-add, zero-mul, mul-one as times-one, arith, pow_pos, pow_mono}
 use native.Mathlib.Nat.{div-eq_of_lt, zero-div}
 use lib.Arith.{lt-one}
 use lib.Pow.{pow-lt}

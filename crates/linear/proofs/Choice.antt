@@ -2,7 +2,7 @@
 -- A row's product with the vector is y + t·x, where y is that without and x that of the trial coefficients. Where y isn't 0, this is 0
 -- for at most one t, since a factor other than 0 can be taken off; where y is 0 and x isn't, only for t = 0. So fewer than size - 1
 -- rows leave one of the size - 1 other t, and the search from 1 on finds the lowest.
-use Rattle.std.proofs.Common.{◌≡◌, ℕ, zero, suc, ◌-◌, ◌<◌, true, false, not, List, [], ◌∷◌, length, sym, refl, ap, ◌∙◌, arith}
+use Rattle.std.proofs.Common.{◌≡◌, ℕ, zero, suc, ◌<◌, true, false, not, List, [], ◌∷◌, length, sym, refl, ap, ◌∙◌, arith}
 use lib.Bits.{bit_xor}
 use Rattle.std.proofs.lemmas.Bool.{not-true, not-false, and_parts, and_from}
 use Rattle.gf.specs.Field.{Field}

@@ -1,14 +1,10 @@
 -- A fault does not depend on what lies behind its item.
 -- Lists that agree up to e have the same numbers below e, and are or are not as long as any x up to e: so an item that ends by e is judged alike.
-use Rattle.std.proofs.Common.{◌≡◌, ℕ, zero, suc, ◌+◌, ◌*◌, ◌<◌, ◌≤◌, min, true, false, cond, eqb, ltb, List, length, get_or, take, sym, refl, ap, ◌∙◌, inl, inr, arith}
-use Rattle.std.proofs.lemmas.List.{get_or-take, length-take, take-take}
-use Rattle.std.proofs.lemmas.Bool.{cases_lt, lt-ltb, le-ltb}
-use Rattle.std.proofs.lemmas.Bool.Decides.{nat_tests}
-use Rattle.octets.specs.Reading.{Reading, got, fault, fine, next, item}
-use Rattle.octets.specs.Words.{word_at}
+use Rattle.std.proofs.Common.{◌≡◌, ℕ, zero, suc, ◌+◌, ◌*◌, ◌<◌, ◌≤◌, cond, List, length, get_or, sym, refl, ◌∙◌, arith}
+use Rattle.octets.specs.Reading.{Reading, got, fault, next, item}
 use Rattle.network.specs.Format.{nodes_in, links_in, from_in, to_in, rate_in, receivers_in, receiver_in, head_fault, among, link_fault, unfed, count_fault, receiver_fault, links, previous, receivers, head_item, link_items, links_end, counts_item, receiver_items, end_item, fault_in, net_in, read_net, Local}
 use Rattle.octets.proofs.Reading.{not-fine}
-use Rattle.octets.proofs.Locality.{Agree, agree_at, agree-word, agree-long, same_item, Spot, spot-item, spot-next, spot-like, end_at, same_end}
+use Rattle.octets.proofs.Locality.{Agree, agree_at, agree-word, agree-long, same_item, Spot, spot-item, spot-next, spot-like, same_end}
 use Rattle.network.proofs.Items.{same-unfed}
 
 -- WHAT IS JUDGED ALIKE

@@ -6,7 +6,7 @@ use Rattle.std.proofs.lemmas.List.FromFn.{fill_by_all}
 use Rattle.network.specs.Network.{Link, Multicast, link_at, Accepted, Within, Apart, InOrder}
 use Rattle.octets.specs.Reading.{got}
 use Rattle.octets.specs.Words.{word_at, word_bytes}
-use Rattle.network.specs.Format.{among, previous, link_bytes, head_bytes, bytes_of, nodes_in, links_in, from_in, to_in, link_in, rate_in, receivers_in, receiver_in, net_in, links, receivers, read_net}
+use Rattle.network.specs.Format.{among, previous, link_bytes, head_bytes, bytes_of, nodes_in, links_in, from_in, to_in, link_in, rate_in, receivers_in, receiver_in, net_in, read_net}
 use Rattle.network.proofs.Items.{among-found, among-at, good-links, all-links, each_fed, all-receivers, rise-above-previous}
 use Rattle.network.proofs.Judged.{Judged, judge}
 use Rattle.octets.proofs.Words.{byte-behind, word-behind, word_back, length-words, words-at}

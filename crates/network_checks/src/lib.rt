@@ -339,11 +339,11 @@ mod tests {
             return Err(Fail::new("refused"));
         };
         assert_eq!(rt; net.network.nodes, 7);
-        assert!(rt; net.network.from.as_slice() == &[0, 0, 1, 1, 2, 2, 3, 4, 4]);
-        assert!(rt; net.network.to.as_slice() == &[1, 2, 3, 5, 3, 6, 4, 5, 6]);
+        assert!(rt; net.network.from.as_slice() == [0, 0, 1, 1, 2, 2, 3, 4, 4].as_slice());
+        assert!(rt; net.network.to.as_slice() == [1, 2, 3, 5, 3, 6, 4, 5, 6].as_slice());
         assert_eq!(rt; net.rate, 2);
-        assert!(rt; net.receivers.as_slice() == &[5, 6]);
-        assert!(rt; network::write(heap, &net)?.as_slice() == &NINE);
+        assert!(rt; net.receivers.as_slice() == [5, 6].as_slice());
+        assert!(rt; network::write(heap, &net)?.as_slice() == NINE.as_slice());
         Ok(())
     }
 }

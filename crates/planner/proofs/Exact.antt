@@ -3,14 +3,14 @@ use Rattle.std.proofs.Common.{◌≡◌, ℕ, suc, ◌<◌, Bool, false, List, [
 use Rattle.std.proofs.lemmas.List.{ext_get_or}
 use Rattle.linear.specs.Vectors.{table}
 use Rattle.linear.proofs.Lists.{get_d-table, length-table}
-use Rattle.coding_theory.specs.Paths.{Each, none, and, Aim}
+use Rattle.coding_theory.specs.Paths.{none, and, Aim}
 use Rattle.coding_theory.specs.Coding.{Receiver, current_at}
 use Rattle.coding.specs.Meaning.{Away, Decodes}
 use Rattle.wire.specs.declared.plan.Decoder.{Decoder}
 use Rattle.network.specs.Values.{graph, value}
 use Rattle.network.specs.declared.net.Multicast.{Multicast as Net}
 use Rattle.network.proofs.Sound.{accepted}
-use Rattle.wire.specs.Plan.{Reader, unserved}
+use Rattle.wire.specs.Plan.{unserved}
 use Rattle.wire.specs.Values.{reader}
 use Rattle.planner_theory.specs.Plan.{routed, stopped, route, link_of, reader_of, planned, plan_of}
 use Rattle.planner_theory.specs.Promise.{Main, Unserved}

@@ -1,19 +1,19 @@
 -- The plan fits its net: as many coefficients as packets are at hand, readers of the right size whose links come in, a cut of nodes.
-use Rattle.std.proofs.Common.{◌≡◌, ℕ, zero, suc, ◌+◌, ◌-◌, ◌<◌, ◌≤◌, Bool, true, false, cond, eqb, List, [], ◌∷◌, ◌++◌, map, length, get_or, take, drop, sym, refl, ap, ◌∙◌, subst, ap₂, inl, inr, arith}
+use Rattle.std.proofs.Common.{◌≡◌, ℕ, suc, ◌+◌, ◌-◌, ◌<◌, Bool, true, false, cond, eqb, List, [], ◌∷◌, ◌++◌, map, length, get_or, take, drop, sym, refl, ap, ◌∙◌, subst, inl, inr, arith}
 use Rattle.std.proofs.ByRecursion.{All-from_get_or}
-use Rattle.std.proofs.lemmas.List.{ext_get_or, get_or-map, get_or_past, length-map, length-take-le, length-drop, get_or-drop, get_or_default, take-append-drop, drop_more}
-use Rattle.std.proofs.lemmas.Bool.{cases_lt, cases_Bool, eqb-true, ne_eqb, both_ways}
+use Rattle.std.proofs.lemmas.List.{ext_get_or, get_or-map, get_or_past, length-map, length-take-le, length-drop, get_or-drop, take-append-drop, drop_more}
+use Rattle.std.proofs.lemmas.Bool.{cases_lt, ne_eqb, both_ways}
 use Rattle.gf.proofs.Fields.{byte_field}
 use Rattle.linear.specs.Vectors.{row, table}
 use Rattle.linear.proofs.Lists.{get_d-table, length-table}
 use Rattle.network.specs.Network.{Link, Network, Multicast, link_at, Sound, Accepted}
-use Rattle.wire.specs.Plan.{Reader, Plan, served, unserved, feeding, hand_at, hands, Comes, Matched, Suits, Fits}
+use Rattle.wire.specs.Plan.{Reader, served, feeding, hand_at, hands, Comes, Matched, Suits, Fits}
 use Rattle.coding_theory.specs.Paths.{Each, none, and, Aim}
-use Rattle.coding_theory.specs.Coding.{Carrier, incoming, at_hand, message, Receiver, Coded, code, rows}
+use Rattle.coding_theory.specs.Coding.{Carrier, incoming, at_hand, message, Receiver, Coded, code}
 use Rattle.coding_theory.specs.Promise.{Reader as Reading, Served, OnlyOnes}
 use Rattle.coding_theory.proofs.Served.{all-at-once}
 use Rattle.coding_theory.proofs.Prescribed.{as-prescribed}
-use Rattle.planner_theory.specs.Plan.{Routed, routed, stopped, route, reader_of, planned, plan_of}
+use Rattle.planner_theory.specs.Plan.{Routed, routed, stopped, route, reader_of, planned}
 use Rattle.planner_theory.specs.Promise.{PlanFits}
 use Rattle.planner_theory.proofs.Routes.{Route, routes}
 use Rattle.planner_theory.proofs.Readers.{links-lead}

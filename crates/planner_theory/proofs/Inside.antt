@@ -1,9 +1,9 @@
 -- A cut that the search finds has only nodes of the network in it: each was reached from the source over links.
-use Rattle.std.proofs.Common.{◌≡◌, ℕ, zero, suc, ◌<◌, Bool, true, false, cond, List, [], ◌∷◌, length, replicate, subst, inl, inr, arith}
+use Rattle.std.proofs.Common.{◌≡◌, ℕ, zero, suc, ◌<◌, Bool, true, false, List, [], ◌∷◌, length, replicate, subst, inl, inr, arith}
 use Rattle.std.proofs.lemmas.Bool.{cond_both}
 use Rattle.network.specs.Network.{Network, Sound}
 use Rattle.flow_theory.specs.Flow.{Way, is_reached, links_to, reached, turn_all, Found, paths, cut, augment, paths_or_cut}
-use Rattle.flow_theory.specs.Order.{Goes, Walk}
+use Rattle.flow_theory.specs.Order.{Walk}
 use Rattle.flow_theory.proofs.Stands.{first_found}
 use Rattle.planner_theory.specs.Plan.{Routed, routed, stopped, before, route}
 

@@ -12,7 +12,7 @@ use Rattle.run_theory.specs.Run.{Reader, Config, begin, deliver, went, ins, outs
 use Rattle.run_theory.specs.Promise.{Supplied, Led, sent_by, unsent, under, here, gone, arrivals}
 use Rattle.run_theory.proofs.Carries.{carried-length, carried-at}
 use Rattle.run_theory.proofs.Finds.{taken-other, taken-one, came-into}
-use Rattle.run_theory.proofs.Stages.{change-at, change-off, comes-in, rounds, rounds-source, rounds-other, rounds-bound}
+use Rattle.run_theory.proofs.Stages.{change-at, change-off, comes-in, rounds-source, rounds-other, rounds-bound}
 use Rattle.run_theory.proofs.Runs.{Inv, inv-led, all_in, all-sent, all-out}
 use Rattle.run_theory.proofs.Rest.{may-begin}
 use Rattle.play_theory.specs.Round.{Rests, Passed, Played, Passing, Began, Passes, Plays, AllEnded, OneMore}

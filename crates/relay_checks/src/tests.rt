@@ -268,7 +268,7 @@ fn sums(rt: HostRuntime) -> Result<(), Fail> {
     let node = put(&rt, node, 4, 1, 6, 0);
     let node = put(&rt, node, 5, 0, 1, 16);
     let node = put(&rt, node, 4, 0, 9, 2);
-    assert_eq!(rt; node.outs.as_slice(), &[6]);
+    assert_eq!(rt; node.outs.as_slice(), [6].as_slice());
     if node.outs.len() > 0 {
         assert_eq!(rt; node.mix(0, 0)[0], 12);
         assert_eq!(rt; node.mix(1, 0)[1023], 5);
@@ -296,7 +296,7 @@ fn records(rt: HostRuntime) -> Result<(), Fail> {
     let heap = rt.alloc();
     let mut bytes = [0u8; PACKET_RECORD_LENGTH];
     write_record(&mut bytes, 260, 16909060, &[9; PACKET_LENGTH]);
-    assert_eq!(rt; &bytes[0..8], &[3, 1, 4, 1, 2, 3, 4, 9]);
+    assert_eq!(rt; &bytes[0..8], [3, 1, 4, 1, 2, 3, 4, 9].as_slice());
     write_record(&mut bytes, 4, 0, &[9; PACKET_LENGTH]);
     let node = node_at(heap, 3)?;
     let (node, outcome) = node.take_record(&bytes[0..1030]);

@@ -1,20 +1,20 @@
 -- Lists out of which a node is put together, and what a plan that fits says of them.
-use Rattle.std.proofs.Common.{◌≡◌, ℕ, zero, suc, ◌+◌, ◌*◌, ◌<◌, ◌≤◌, true, false, cond, ◌||◌, eqb, ◌⊎◌, List, [], ◌∷◌, ◌++◌, map, length, get_or, take, drop, vec_items, vec_len, sym, refl, ap, ◌∙◌, subst, ap₂, inl, inr, append-nil, suc-mul, one-mul, zero-mul, mul-one, arith, length-append, drop-drop}
+use Rattle.std.proofs.Common.{◌≡◌, ℕ, zero, suc, ◌+◌, ◌*◌, ◌<◌, ◌≤◌, true, false, cond, eqb, ◌⊎◌, List, [], ◌∷◌, ◌++◌, map, length, get_or, take, drop, vec_items, sym, refl, ap, ◌∙◌, subst, ap₂, inl, inr, append-nil, suc-mul, one-mul, zero-mul, mul-one, arith, length-append, drop-drop}
 use Rattle.std.specs.List.{range_with_len, flat_map, AllByRecursion as All}
 use Rattle.std.proofs.lemmas.List.FromFn.{fill_by_all}
 use Rattle.std.proofs.ByRecursion.{All-get_or}
 use Rattle.std.proofs.lemmas.List.{get_or-map, length-map, take_at, drop_at, take_more, map_more, flat_map_more, length-take-le}
-use Rattle.std.proofs.lemmas.Bool.{cases_Bool, cases_eq, eq-eqb, ne_eqb, eqb-true, or_left, or_right, or_parts, both_ways}
+use Rattle.std.proofs.lemmas.Bool.{cases_Bool, cases_eq, eq-eqb, ne_eqb, or_left, or_right, or_parts}
 use Rattle.gf.proofs.Fields.{byte_field}
-use Rattle.linear.specs.Vectors.{row as row_at, mixed}
+use Rattle.linear.specs.Vectors.{row as row_at}
 use Rattle.linear.specs.Reading.{read_by}
 use Rattle.network.specs.Network.{Link, Multicast, link_at, paired, Rising, Accepted}
 use Rattle.network.specs.Values.{graph}
 use Rattle.network.specs.declared.net.Network.{Network as Columns}
 use Rattle.network.proofs.Sound.{level}
 use Rattle.network_cuts.specs.Scheme.{Packet}
-use Rattle.wire.specs.Plan.{Reader, served, feeding, hand_at, hands, Comes, Matched, Suits, Fits}
-use Rattle.relay_theory.specs.Relay.{is_in, origin, numbers}
+use Rattle.wire.specs.Plan.{Reader, served, feeding, hand_at, Comes, Matched, Suits, Fits}
+use Rattle.relay_theory.specs.Relay.{is_in, numbers}
 use Rattle.relay_theory.proofs.Finds.{numbers-in, numbers-at}
 use Rattle.run_theory.specs.Run.{ins, outs}
 use Rattle.delivery_theory.specs.Work.{place, read_from, reader_for}

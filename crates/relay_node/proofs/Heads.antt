@@ -1,17 +1,17 @@
 -- Records: heads of fixed length, behind which the packet or the message lies.
-use Rattle.std.proofs.Common.{◌≡◌, ℕ, zero, suc, ◌+◌, ◌*◌, ◌/◌, ◌%◌, ◌<◌, ◌≤◌, Bool, true, false, cond, ◌&&◌, eqb, ltb, List, [], ◌∷◌, ◌++◌, map, length, get_or, take, drop, set, sym, refl, ap, ◌∙◌, subst, ap₂, inl, inr, append-nil, mul_comm, arith}
-use Rattle.std.specs.List.{range_with_len, flat_map, AllByRecursion as All}
+use Rattle.std.proofs.Common.{◌≡◌, ℕ, ◌+◌, ◌*◌, ◌<◌, ◌≤◌, Bool, true, false, cond, ◌&&◌, eqb, ltb, List, [], ◌∷◌, ◌++◌, length, get_or, take, drop, set, sym, refl, ap, ◌∙◌, subst, ap₂, inl, inr, append-nil, arith}
+use Rattle.std.specs.List.{flat_map, AllByRecursion as All}
 use borrow.Rule.Slice.PartMut.{put_mid}
 use Rattle.std.proofs.lemmas.List.{drop_all, length-drop}
 use Rattle.std.proofs.lemmas.List.FromFn.{fill_by_all}
 use Rattle.std.proofs.lemmas.Bool.{cases_Bool, cases_eq, eq-eqb, ne_eqb, eqb-true, lt-ltb, ltb-true, and_from, and_parts, and_left, cond-true, cond-false}
-use Rattle.octets.specs.Words.{word_bytes, word_at}
+use Rattle.octets.specs.Words.{word_at}
 use Rattle.network_cuts.specs.Scheme.{Packet}
 use Rattle.relay_theory.specs.Relay.{State, Answer, refused, receive}
 use Rattle.relay_memory.specs.Memory.{part, cut}
 use Rattle.relay_memory.specs.Values.{parcel, Tells}
 use Rattle.relay_node.specs.Steps.{take_packet, take_message}
-use Rattle.relay_node.specs.Records.{long_bytes, long_at, packet_record, message_record, take_record, ReadBack}
+use Rattle.relay_node.specs.Records.{long_at, packet_record, message_record, take_record, ReadBack}
 use Rattle.relay_memory.specs.declared.outcome.Outcome.{Outcome}
 use Rattle.relay_memory.specs.declared.slots.Slots.{Slots}
 use Rattle.relay_node.proofs.Assembly.{length-joined, part-joined}

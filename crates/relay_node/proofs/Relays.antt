@@ -1,26 +1,26 @@
 -- What is told of a node at work by a plan is what the definitions of relays and runs say.
-use Rattle.std.proofs.Common.{◌≡◌, ℕ, ◌+◌, ◌*◌, true, false, cond, ◌&&◌, ◌||◌, eqb, List, [], ◌∷◌, ◌++◌, map, length, vec_items, sym, refl, ap, ◌∙◌, subst, ap₂, arith}
+use Rattle.std.proofs.Common.{◌≡◌, ℕ, ◌+◌, ◌*◌, true, false, cond, ◌&&◌, eqb, List, [], ◌∷◌, ◌++◌, map, length, vec_items, sym, refl, ap, ◌∙◌, subst, ap₂, arith}
 use Rattle.std.specs.List.{flat_map}
-use Rattle.std.proofs.lemmas.Bool.{eq-eqb, ne_eqb, or_left, or_right, and_from, cond-true, cond-false}
+use Rattle.std.proofs.lemmas.Bool.{eq-eqb, ne_eqb, or_left, or_right, cond-true, cond-false}
 use Rattle.network.specs.Network.{Multicast}
-use Rattle.network_cuts.specs.Scheme.{Packet, Scheme}
+use Rattle.network_cuts.specs.Scheme.{Packet}
 use Rattle.wire.specs.Plan.{Reader}
-use Rattle.relay_theory.specs.Relay.{Parcel, State, is_in, Over, Ended, Answer, refused, took, receive, send, sent, readings, at_source, origin}
+use Rattle.relay_theory.specs.Relay.{Parcel, State, is_in, Over, Answer, refused, took, receive, send, sent, readings, at_source, origin}
 use Rattle.relay_theory.specs.Law.{begun}
-use Rattle.relay_theory.specs.Mapped.{map_parcel, map_state, map_over, map_ended, map_answer, alone}
+use Rattle.relay_theory.specs.Mapped.{map_over, map_ended, map_answer, alone}
 use Rattle.relay_theory.proofs.Law.{begins}
 use Rattle.relay_theory.proofs.Mapped.{alone-holds}
 use Rattle.run_theory.specs.Run.{ins, outs}
 use Rattle.delivery_theory.specs.Work.{working, reading}
 use Rattle.relay_memory.specs.Memory.{cut}
 use Rattle.relay_memory.specs.Refusals.{number}
-use Rattle.relay_memory.specs.Values.{parcel, state, over_in, ended_in, Tells}
+use Rattle.relay_memory.specs.Values.{parcel, state, ended_in, Tells}
 use Rattle.relay_memory.specs.declared.outcome.Outcome.{Outcome}
 use Rattle.relay_memory.specs.declared.outcome.Outcome.TheVariants.{Refused, Taken}
-use Rattle.relay_node.specs.Nodes.{width, entries, Works}
+use Rattle.relay_node.specs.Nodes.{Works}
 use Rattle.relay_node.specs.Steps.{take_packet, take_message}
-use Rattle.relay_node.specs.Values.{Alike, scheme, reading as reading_of}
-use Rattle.relay_node.specs.Relays.{recent, sending, putting, Relayed, Relays, Sources}
+use Rattle.relay_node.specs.Values.{scheme, reading as reading_of}
+use Rattle.relay_node.specs.Relays.{recent, sending, Relayed, Relays, Sources}
 use Rattle.relay_node.specs.declared.node.Node.{Node}
 use Rattle.relay_node.proofs.Assembled.{works-on}
 

@@ -4,7 +4,6 @@ use Rattle.std.proofs.lemmas.List.{same_from_push, length_push}
 use Rattle.network.specs.Network.{Multicast, Accepted}
 use Rattle.network_cuts.specs.Scheme.{Packet, got}
 use Rattle.wire.specs.Plan.{Reader}
-use Rattle.relay_theory.specs.Law.{begun}
 use Rattle.run_theory.specs.Run.{Config}
 use Rattle.play_theory.specs.Round.{Played, Rests}
 use Rattle.play_theory.proofs.Round.{plays, all-ended}

@@ -4,7 +4,7 @@ use Rattle.std.proofs.lemmas.List.{get_or_read_under}
 use Rattle.network.specs.Network.{Multicast, link_at}
 use Rattle.network.specs.Values.{value}
 use Rattle.network.specs.declared.net.Multicast.{Multicast as Net}
-use Rattle.network.proofs.Sound.{level, links-long, from_is, to_is, accepted}
+use Rattle.network.proofs.Sound.{links-long, from_is, to_is, accepted}
 use Rattle.network_cuts.specs.Scheme.{Packet}
 use Rattle.relay_theory.specs.Relay.{is_in, at_source}
 use Rattle.relay_node.specs.Steps.{take_packet}

@@ -12,7 +12,7 @@ use Rattle.relay_theory.specs.Law.{begun}
 use Rattle.relay_theory.specs.Mapped.{map_state, alone}
 use Rattle.relay_theory.proofs.Finds.{added-same, added-other, except-same, except-other}
 use Rattle.relay_theory.proofs.Receives.{accepts, never-over}
-use Rattle.run_theory.specs.Run.{Config, ins}
+use Rattle.run_theory.specs.Run.{Config}
 use Rattle.run_theory.proofs.Runs.{inv-led}
 use Rattle.play_theory.specs.Round.{Passed}
 use Rattle.play_theory.proofs.Round.{began}

@@ -1,14 +1,13 @@
 -- The item of a plan with a cut: eight flags in a byte, and which cuts are accepted.
-use Rattle.std.proofs.Common.{◌≡◌, ℕ, zero, suc, ◌+◌, ◌-◌, ◌*◌, ◌/◌, ◌%◌, ◌^◌, ◌<◌, ◌≤◌, Bool, true, false, cond, not, ◌&&◌, ◌||◌, eqb, ltb, List, [], ◌∷◌, ◌++◌, map, length, get_or, take, drop, sym, refl, ap, ◌∙◌, subst, ap₂, inl, inr, append_assoc, arith}
-use Rattle.std.specs.List.{range_with_len}
+use Rattle.std.proofs.Common.{◌≡◌, ℕ, zero, suc, ◌+◌, ◌-◌, ◌*◌, ◌/◌, ◌%◌, ◌^◌, ◌<◌, ◌≤◌, Bool, true, false, cond, not, ◌&&◌, eqb, ltb, List, [], ◌∷◌, ◌++◌, length, get_or, take, drop, sym, refl, ap, ◌∙◌, subst, ap₂, inl, inr, append_assoc, arith}
 use Rattle.std.proofs.lemmas.List.FromFn.{fill_by_all, length-map-range_with_len, get_or-map-range_with_len}
 use Rattle.std.proofs.lemmas.List.{length-append, length-take-le, length-drop, get_or-take, get_or_append_left, take-append-drop, drop_at, drop-drop}
-use Rattle.std.proofs.lemmas.Bool.{and_parts, and_from, not-true, not_from_false, or_cases, or_left, or_right, or_parts, or_from, eq-eqb, eqb-true, lt-ltb, ltb-true, both_ways, cases_Bool, cases_eq}
+use Rattle.std.proofs.lemmas.Bool.{and_parts, not-true, or_cases, or_left, or_right, or_parts, or_from, eq-eqb, eqb-true, lt-ltb, both_ways, cases_Bool, cases_eq}
 use Rattle.octets.specs.Words.{word_bytes, word_at}
 use Rattle.octets.proofs.Locality.{agree_at, agree-word}
 use Rattle.octets.proofs.Words.{word_first, word_kept}
 use Rattle.network.specs.Network.{Multicast, Accepted}
-use Rattle.wire.specs.Plan.{Plan, served, unserved, Fits}
+use Rattle.wire.specs.Plan.{Plan, unserved, Fits}
 use Rattle.wire.specs.Format.{got, bit, flag_byte, side_bytes, flag_in, side_in, beyond, among, cut_fault, cut_item}
 use Rattle.wire.proofs.Parsing.{Lawful, item-lawful, item-good, item-took, agree-drop}
 use Rattle.wire.proofs.Codecs.{Small, small-behind}

@@ -1,5 +1,5 @@
 -- A plan that fits has counts that two bytes hold.
-use Rattle.std.proofs.Common.{◌≡◌, ℕ, ◌+◌, ◌<◌, ◌≤◌, Bool, true, false, cond, eqb, List, [], ◌∷◌, map, length, sym, ap, subst, arith}
+use Rattle.std.proofs.Common.{◌≡◌, ℕ, ◌+◌, ◌<◌, ◌≤◌, Bool, true, false, cond, eqb, List, [], ◌∷◌, map, length, ap, arith}
 use Rattle.std.specs.List.{AllByRecursion as All}
 use Rattle.network.specs.Network.{Link, Multicast, Accepted}
 use Rattle.wire.specs.Plan.{feeding, hand_at, hands}

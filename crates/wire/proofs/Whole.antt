@@ -1,12 +1,12 @@
 -- Whole plans: what is written is read back, what is read fits and is written back byte for byte, and a fault depends on nothing behind its item.
-use Rattle.std.proofs.Common.{◌≡◌, ℕ, ◌+◌, ◌<◌, ◌≤◌, min, Bool, true, false, cond, ◌&&◌, ◌||◌, eqb, ◌⊎◌, List, [], ◌∷◌, ◌++◌, map, length, get_or, take, drop, sym, refl, ap, ◌∙◌, subst, ap₂, inl, inr, append_assoc, append-nil, arith}
+use Rattle.std.proofs.Common.{◌≡◌, ℕ, ◌+◌, ◌≤◌, min, Bool, true, false, cond, ◌&&◌, ◌||◌, eqb, ◌⊎◌, List, [], ◌∷◌, ◌++◌, map, length, get_or, take, drop, sym, refl, ap, ◌∙◌, subst, ap₂, inl, inr, append-nil, arith}
 use Rattle.std.specs.List.{flat_map}
-use Rattle.std.proofs.lemmas.List.{length-drop, length-take, drop_more, drop_all}
-use Rattle.std.proofs.lemmas.Bool.{cases_Bool, cases_eq, and_parts, or_cases, eqb-true, eq-eqb, ne_eqb}
+use Rattle.std.proofs.lemmas.List.{length-drop, length-take, drop_more}
+use Rattle.std.proofs.lemmas.Bool.{and_parts, or_cases, eqb-true, eq-eqb, ne_eqb}
 use Rattle.octets.proofs.Locality.{agree_at}
 use Rattle.network.specs.Network.{Multicast, Accepted}
 use Rattle.wire.specs.Plan.{Reader, Plan, served, unserved, hands, Matched, Suits, Fits}
-use Rattle.wire.specs.Format.{Read, got, fault, Parser, and_then, item, each, link_bytes, reader_bytes, plan_bytes, head_item, link_item, reader_item, served_items, cut_item, body, items, end, read_plan, Local}
+use Rattle.wire.specs.Format.{Read, got, fault, Parser, and_then, each, link_bytes, reader_bytes, plan_bytes, head_item, link_item, reader_item, served_items, cut_item, body, items, end, read_plan, Local}
 use Rattle.wire.proofs.Parsing.{Near, Lawful, item-lawful, item-good, item-took, got-lawful, then-lawful, each-lawful, not-got, same-got, agree_less}
 use Rattle.wire.proofs.Codecs.{Small, small-behind, Codec, between, each-codec}
 use Rattle.wire.proofs.Served.{link-lawful, link-codec, reader-lawful, reader-codec}

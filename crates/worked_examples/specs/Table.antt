@@ -12,7 +12,7 @@ use Rattle.gf.proofs.Fields.{byte_field}
 use Rattle.linear.specs.Vectors.{table as flags, row, plus}
 use Rattle.linear.specs.Transport.{Message}
 use Rattle.linear.specs.Reading.{read_by}
-use Rattle.network.specs.Network.{Link, Network, Multicast, link_at, paired}
+use Rattle.network.specs.Network.{Network, Multicast, link_at, paired}
 use Rattle.network_cuts.specs.Scheme.{Packet, carried}
 use Rattle.network_cuts.specs.Cut.{out}
 use Rattle.flow_theory.specs.Flow.{Found, paths, cut, paths_or_cut}

@@ -1,4 +1,4 @@
-use Rattle.std.proofs.Common.{◌≡◌, ℕ, suc, ◌+◌, ◌-◌, false, length, get_or, vec_items, sym, ap, ◌∙◌, subst, arith}
+use Rattle.std.proofs.Common.{◌≡◌, ℕ, suc, ◌+◌, ◌-◌, false, get_or, vec_items, sym, ap, ◌∙◌, subst, arith}
 use Rattle.network.specs.Values.{graph}
 use Rattle.network.proofs.Sound.{sound}
 use Rattle.flow_theory.specs.Flow.{start, is_reached, reached, turn_all, augment}

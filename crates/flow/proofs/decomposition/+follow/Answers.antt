@@ -1,7 +1,7 @@
-use Rattle.std.proofs.Common.{◌≡◌, ℕ, ◌<◌, true, false, List, ◌∷◌, length, set, vec_items, sym, ap, ◌∙◌, arith, length-set}
+use Rattle.std.proofs.Common.{ℕ, true, false, ◌∷◌, set, vec_items, sym, ap, ◌∙◌, arith, length-set}
 use Rattle.network.specs.Values.{graph}
 use Rattle.network.proofs.Sound.{links-long}
-use Rattle.flow_theory.specs.Flow.{out_of, flagged, follow, used_count}
+use Rattle.flow_theory.specs.Flow.{flagged, follow, used_count}
 use Rattle.flow_theory.proofs.Follow.{count_less}
 use Rattle.flow_search.proofs.Visited.{row_below}
 use Rattle.flow.proofs.Followed.{follow-here, follow-none, follow-on, found-out, found-used, found_below, end_read, ended, path-on, used-on}

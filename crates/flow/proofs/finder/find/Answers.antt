@@ -1,6 +1,5 @@
-use Rattle.std.proofs.Common.{map, vec_items, sym, ap, ◌∙◌, arith}
+use Rattle.std.proofs.Common.{map, vec_items}
 use Rattle.network.specs.Values.{graph}
-use Rattle.network.proofs.Sound.{links-long}
 use Rattle.flow.proofs.Served.{none-used, found-cut, found-paths}
 use Rattle.flow.proofs.finder.find.Goals as goal
 

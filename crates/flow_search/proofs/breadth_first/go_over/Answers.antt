@@ -1,4 +1,4 @@
-use Rattle.std.proofs.Common.{◌≡◌, ℕ, ◌+◌, ◌<◌, Bool, List, length, get_or, take, vec_items, sym, refl, ap, ◌∙◌, subst₂, arith}
+use Rattle.std.proofs.Common.{ℕ, ◌+◌, ◌<◌, Bool, List, length, get_or, vec_items, sym, refl, ap, ◌∙◌, subst₂, arith}
 use Rattle.std.proofs.lemmas.List.{take_all}
 use Rattle.flow_theory.specs.Flow.{flagged, go_on, Way, start}
 use Rattle.flow_search.specs.Queue.{ways_of}

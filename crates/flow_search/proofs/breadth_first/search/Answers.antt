@@ -1,4 +1,4 @@
-use Rattle.std.proofs.Common.{◌≡◌, [], ◌∷◌, ◌++◌, length, vec_items, vec_len, sym, refl, ap, ◌∙◌, arith}
+use Rattle.std.proofs.Common.{[], ◌∷◌, ◌++◌, length, vec_items, sym, refl, ap, ◌∙◌, arith}
 use Rattle.network.specs.Values.{graph}
 use Rattle.network.proofs.Sound.{sound}
 use Rattle.flow_search.specs.Queue.{ways_of}

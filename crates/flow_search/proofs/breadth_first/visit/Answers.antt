@@ -1,7 +1,7 @@
-use Rattle.std.proofs.Common.{◌≡◌, ℕ, ◌<◌, ◌≤◌, false, length, get_or, vec_items, vec_len, sym, ap, ◌∙◌, arith}
+use Rattle.std.proofs.Common.{ℕ, false, length, get_or, vec_items, sym, ap, ◌∙◌, arith}
 use Rattle.network.specs.Values.{graph}
-use Rattle.network.proofs.Sound.{level, links-long}
-use Rattle.flow_theory.specs.Flow.{Way, start, out_of, into_of, flagged, go_on}
+use Rattle.network.proofs.Sound.{links-long}
+use Rattle.flow_theory.specs.Flow.{start, out_of, into_of, flagged}
 use Rattle.flow_search.specs.Queue.{ways_of}
 use Rattle.flow_search.proofs.Queued.{ways-length, go-longer}
 use Rattle.flow_search.proofs.Visited.{node-read, node-below, row_below, ends-marked, visited}

@@ -1,4 +1,4 @@
-use Rattle.std.proofs.Common.{ℕ, List, [], ◌∷◌, ◌++◌, get_or, vec_items, sym, refl, ap, ◌∙◌, append_assoc, append-nil, arith}
+use Rattle.std.proofs.Common.{ℕ, List, [], ◌∷◌, ◌++◌, get_or, vec_items, sym, ap, ◌∙◌, append_assoc, append-nil, arith}
 use Rattle.flow_theory.specs.Flow.{listed}
 use Rattle.flow_search.proofs.Listed.{listed_more, listed_same}
 use Rattle.flow_search.proofs.listing.push_row.Goals as goal

@@ -1,4 +1,4 @@
-use Rattle.std.proofs.Common.{◌≡◌, suc, ◌+◌, ◌-◌, ◌*◌, ◌/◌, ◌%◌, ◌^◌, ◌<◌, sym, ap, ◌∙◌, ap₂, div-one, arith, lit<}
+use Rattle.std.proofs.Common.{◌≡◌, suc, ◌+◌, ◌-◌, ◌*◌, ◌/◌, ◌%◌, ◌^◌, sym, ap, ◌∙◌, ap₂, div-one, arith, lit<}
 use lib.Bits.{bit_xor, and_mask}
 use Rattle.std.proofs.lemmas.Nat.{shr-shr}
 use Rattle.gf.proofs.Polynomials.{degree-byte}

@@ -1,18 +1,17 @@
-use Rattle.std.proofs.Common.{◌≡◌, ℕ, ◌<◌, ◌≤◌, List, [], map, length, get_or, vec_items, vec_len, sym, ap, ◌∙◌, subst, ap₂, arith, rules}
+use Rattle.std.proofs.Common.{◌≡◌, ℕ, ◌<◌, List, map, length, get_or, vec_items, sym, ap, ◌∙◌, subst, ap₂, arith, rules}
 use Rattle.std.proofs.lemmas.List.{length-map}
 use Rattle.gf.proofs.Fields.{byte_field}
-use Rattle.network.specs.Network.{Multicast}
 use Rattle.network.specs.Values.{graph, value}
 use Rattle.network.specs.declared.net.Multicast.{Multicast as Net}
 use Rattle.network.proofs.Sound.{accepted}
 use Rattle.coding_theory.specs.Paths.{Aim}
-use Rattle.coding_theory.specs.Coding.{Coded, code, start}
+use Rattle.coding_theory.specs.Coding.{code}
 use Rattle.coding.specs.Passing.{aims_of}
 use Rattle.coding.specs.State.{Served}
 use Rattle.coding.specs.Meaning.{Away, Means}
 use Rattle.wire.specs.Plan.{served, unserved, Fits}
 use Rattle.wire.specs.Values.{reader}
-use Rattle.planner_theory.specs.Plan.{routed, stopped, route, reader_of, planned, plan_of}
+use Rattle.planner_theory.specs.Plan.{routed, route, planned, plan_of}
 use Rattle.planner_theory.specs.Promise.{Main}
 use Rattle.planner_theory.proofs.Routes.{Route}
 use Rattle.planner_theory.proofs.Fitting.{plan-fits}

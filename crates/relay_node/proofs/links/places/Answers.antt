@@ -1,4 +1,4 @@
-use Rattle.std.proofs.Common.{take, vec_items, ap, ◌∙◌, arith}
+use Rattle.std.proofs.Common.{vec_items, ap, ◌∙◌}
 use Rattle.std.proofs.lemmas.List.{take_all}
 use Rattle.relay_node.specs.Assembly.{occurring}
 use Rattle.relay_node.proofs.Assembly.{places-none, places-hit, places-miss}

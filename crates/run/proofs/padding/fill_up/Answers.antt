@@ -1,5 +1,5 @@
-use Rattle.std.proofs.Common.{◌≡◌, ℕ, ◌-◌, ◌≤◌, List, [], ◌++◌, length, take, drop, replicate, sym, ap, ◌∙◌, ap₂, append-nil, arith}
-use Rattle.std.proofs.lemmas.List.{length-drop, length-take-le, drop_all, take_rest}
+use Rattle.std.proofs.Common.{◌≡◌, ℕ, ◌-◌, List, [], ◌++◌, length, take, drop, replicate, ap, ◌∙◌, ap₂, append-nil, arith}
+use Rattle.std.proofs.lemmas.List.{length-drop, drop_all, take_rest}
 use Rattle.run.proofs.padding.fill_up.Goals as goal
 
 pub returns : goal.returns

@@ -1,4 +1,4 @@
-use Rattle.std.proofs.Common.{◌≡◌, true, take, drop}
+use Rattle.std.proofs.Common.{◌≡◌, drop}
 use Rattle.run.specs.Zero.{zeros}
 use Rattle.run.proofs.parts.is_zero.Given as goal
 

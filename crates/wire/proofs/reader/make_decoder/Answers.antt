@@ -1,4 +1,4 @@
-use Rattle.std.proofs.Common.{◌≡◌, ℕ, ◌*◌, List, drop, ap, ◌∙◌}
+use Rattle.std.proofs.Common.{ℕ, ◌*◌, ap, ◌∙◌}
 use Rattle.std.proofs.lemmas.List.{take_rest}
 use Rattle.wire.specs.Format.{rows_in}
 use Rattle.wire.proofs.reader.make_decoder.Goals as goal

@@ -1,4 +1,4 @@
-use Rattle.std.proofs.Common.{◌≡◌, ℕ, ◌+◌, ◌<◌, ◌≤◌, List, [], ◌∷◌, ◌++◌, map, length, get_or, drop, vec_items, vec_len, sym, ap, ◌∙◌, subst, arith}
+use Rattle.std.proofs.Common.{◌≡◌, ℕ, ◌+◌, ◌<◌, List, [], ◌∷◌, ◌++◌, map, length, get_or, drop, vec_items, vec_len, sym, ap, ◌∙◌, subst, arith}
 use Rattle.std.proofs.lemmas.List.{length-map, map_push, get_or_default}
 use Rattle.std.proofs.lemmas.Result.{err_from_is_err_and}
 use Rattle.network.specs.Values.{graph, value}
@@ -6,9 +6,9 @@ use Rattle.network.specs.declared.net.Multicast.{Multicast as Net}
 use Rattle.network.proofs.Sound.{links-long}
 use Rattle.wire.specs.Plan.{hand_at, hands}
 use Rattle.wire.specs.Format.{Read, each, link_item}
-use Rattle.wire.specs.Values.{Behind, Reads}
+use Rattle.wire.specs.Values.{Behind}
 use Rattle.wire.specs.declared.fault.ReadError.TheVariants.{Memory}
-use Rattle.wire.proofs.Reading.{after_all, started, one_more, one-refused, all_read, link-grows}
+use Rattle.wire.proofs.Reading.{after_all, one_more, one-refused, all_read, link-grows}
 use Rattle.wire.proofs.Served.{link-lawful}
 use Rattle.wire.proofs.reader.read_coefficients.Goals as goal
 

@@ -1,10 +1,10 @@
-use Rattle.std.proofs.Common.{◌≡◌, ℕ, ◌+◌, ◌<◌, ◌≤◌, List, [], ◌∷◌, ◌++◌, map, length, get_or, drop, vec_items, vec_len, sym, ap, ◌∙◌, subst, arith}
+use Rattle.std.proofs.Common.{◌≡◌, ℕ, ◌+◌, List, [], ◌∷◌, ◌++◌, map, drop, vec_items, sym, ap, ◌∙◌, subst, arith}
 use Rattle.std.proofs.lemmas.List.{map_push}
 use Rattle.std.proofs.lemmas.Result.{err_from_is_err_and}
 use Rattle.network.specs.Network.{Link}
 use Rattle.network.specs.Values.{graph}
 use Rattle.wire.specs.Plan.{Reader}
-use Rattle.wire.specs.Format.{Read, Parser, each, reader_item}
+use Rattle.wire.specs.Format.{Read, each, reader_item}
 use Rattle.wire.specs.Values.{Behind, reader}
 use Rattle.wire.specs.declared.fault.ReadError.TheVariants.{Memory}
 use Rattle.wire.proofs.Reading.{after_all, one_more, one-refused, all_read, reader-grows}

@@ -1,10 +1,9 @@
-use Rattle.std.proofs.Common.{◌≡◌, ℕ, ◌+◌, ◌<◌, ◌≤◌, Bool, true, false, cond, ◌&&◌, ◌||◌, eqb, List, length, get_or, drop, sym, refl, ap, ◌∙◌, subst, ap₂, arith}
+use Rattle.std.proofs.Common.{◌≡◌, ℕ, ◌<◌, ◌≤◌, Bool, true, false, cond, ◌&&◌, ◌||◌, eqb, List, length, get_or, drop, sym, refl, ap, ◌∙◌, subst, ap₂, arith}
 use Rattle.std.proofs.lemmas.Bool.{ltb-true, ltb-false, and_left, and_right, ne_eqb}
 use Rattle.std.proofs.lemmas.Bool.Decides.{nat_tests}
 use Rattle.network.specs.Network.{Multicast}
 use Rattle.network.specs.Values.{value}
-use Rattle.wire.specs.Plan.{Plan}
-use Rattle.wire.specs.Format.{Read, got, fault, and_then, head_item, body, items}
+use Rattle.wire.specs.Format.{got, fault, and_then, body, items}
 use Rattle.wire.specs.Values.{plan, Reads}
 use Rattle.wire.proofs.Parsing.{item-short, item-good, item-bad}
 use Rattle.wire.proofs.reader.read_items.Goals as goal

@@ -1,4 +1,4 @@
-use Rattle.std.proofs.Common.{◌≡◌, ℕ, suc, ◌+◌, ◌-◌, ◌*◌, ◌<◌, ◌≤◌, List, [], ◌∷◌, ◌++◌, map, length, take, drop, vec_items, sym, ap, ◌∙◌, ap₂, mul-le-mul_right, suc-mul, arith}
+use Rattle.std.proofs.Common.{◌≡◌, ℕ, suc, ◌+◌, ◌-◌, ◌*◌, ◌<◌, ◌≤◌, List, [], ◌∷◌, ◌++◌, map, take, drop, vec_items, sym, ap, ◌∙◌, ap₂, mul-le-mul_right, suc-mul, arith}
 use Rattle.std.proofs.lemmas.List.{map_push}
 use Rattle.wire.specs.Format.{rows_in}
 use Rattle.wire.proofs.Reading.{rows_more}

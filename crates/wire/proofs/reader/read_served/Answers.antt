@@ -1,11 +1,9 @@
-use Rattle.std.proofs.Common.{◌≡◌, ℕ, List, map, drop, vec_items, ap, ◌∙◌}
+use Rattle.std.proofs.Common.{ℕ, List, map, drop, vec_items, ap, ◌∙◌}
 use Rattle.std.proofs.lemmas.Result.{err_from_is_err_and}
 use Rattle.network.specs.Network.{Multicast}
 use Rattle.network.specs.Values.{value}
 use Rattle.wire.specs.Plan.{Reader, Plan, served, hands}
 use Rattle.wire.specs.Format.{got, Parser, and_then, each, link_item, reader_item}
-use Rattle.wire.specs.Values.{Refuses, reader}
-use Rattle.wire.specs.declared.fault.ReadError.{ReadError}
 use Rattle.wire.proofs.Parsing.{got-lawful}
 use Rattle.wire.proofs.Reading.{refuses-then, refuses-second}
 use Rattle.wire.proofs.Whole.{behind-lawful}

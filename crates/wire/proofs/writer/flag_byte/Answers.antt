@@ -1,4 +1,4 @@
-use Rattle.std.proofs.Common.{◌≡◌, ℕ, Bool, true, false, cond, refl, ◌∙◌}
+use Rattle.std.proofs.Common.{◌≡◌, Bool, true, false, cond, refl, ◌∙◌}
 use mir.Val.{bool_byte}
 use Rattle.wire.specs.Format.{flag_byte}
 use Rattle.wire.proofs.writer.flag_byte.Goals as goal

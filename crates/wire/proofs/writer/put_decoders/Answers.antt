@@ -1,4 +1,4 @@
-use Rattle.std.proofs.Common.{◌≡◌, ℕ, List, ◌++◌, map, vec_items, ap, ◌∙◌, ap₂, append_assoc}
+use Rattle.std.proofs.Common.{ℕ, List, ◌++◌, map, vec_items, ap, ◌∙◌, ap₂, append_assoc}
 use Rattle.std.specs.List.{flat_map}
 use Rattle.octets.specs.Words.{word_bytes}
 use Rattle.wire.specs.Format.{reader_bytes}

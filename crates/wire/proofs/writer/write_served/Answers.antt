@@ -1,4 +1,4 @@
-use Rattle.std.proofs.Common.{◌≡◌, ℕ, ◌<◌, List, [], ◌∷◌, ◌++◌, map, length, vec_items, sym, ◌∙◌, subst, append_assoc}
+use Rattle.std.proofs.Common.{◌≡◌, ℕ, ◌<◌, List, [], ◌∷◌, ◌++◌, map, length, vec_items, sym, ◌∙◌, subst}
 use Rattle.std.specs.List.{flat_map, AllByRecursion as All}
 use Rattle.wire.specs.Format.{link_bytes, reader_bytes}
 use Rattle.wire.specs.Values.{reader}

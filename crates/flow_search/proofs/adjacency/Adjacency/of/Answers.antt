@@ -1,4 +1,4 @@
-use Rattle.std.proofs.Common.{◌≡◌, ℕ, ◌<◌, List, length, get_or, vec_items, vec_len, sym, ap, ◌∙◌, arith}
+use Rattle.std.proofs.Common.{◌≡◌, length, get_or, vec_items, vec_len, sym, ap, ◌∙◌, arith}
 use Rattle.network.proofs.Sound.{from_is, to_is, level, links-long}
 use Rattle.flow_search.proofs.Listed.{lists-like}
 use Rattle.flow_search.proofs.adjacency.Adjacency.of.Goals as goal

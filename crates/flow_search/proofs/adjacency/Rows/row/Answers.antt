@@ -1,4 +1,4 @@
-use Rattle.std.proofs.Common.{◌≡◌, ◌+◌, ◌-◌, take, drop, arith}
+use Rattle.std.proofs.Common.{◌≡◌, ◌+◌, arith}
 use Rattle.flow_search.specs.Rows.{start}
 use Rattle.flow_search.proofs.Listed.{start-read}
 use Rattle.flow_search.proofs.adjacency.Rows.row.Goals as goal

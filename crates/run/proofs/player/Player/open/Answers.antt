@@ -1,5 +1,5 @@
 use Rattle.std.proofs.Common.{refl}
-use Rattle.run.proofs.Open.{start_of, opened}
+use Rattle.run.proofs.Open.{opened}
 use Rattle.run.proofs.player.Player.open.Goals as goal
 
 pub returns : goal.returns
