@@ -37,6 +37,7 @@ pub fn make_plan_with_routes(heap: Global, net: &Multicast) -> Result<(Routes, P
 pub fn make_plan(heap: Global, net: &Multicast) -> Result<Plan, AllocError>
     ensures exact { IfOk result (λ p. plan p ≡ plan_of (value net.now)) }
     ensures promise { IfOk result (λ p. Main (value net.now) (plan p)) }
+    ensures fits { IfOk result (λ p. Fits (value net.now) (plan p)) }
 {
     let (_routes, plan) = make_plan_with_routes(heap, net)?;
     Ok(plan)
