@@ -2,7 +2,7 @@
 -- By induction along the links: as long as the same has come in at every node outside, a link that begins outside carries the same,
 -- a link out of the set does so by assumption, and what a link within the set carries comes in at no node outside.
 use Rattle.std.proofs.Common.{◌≡◌, ℕ, ◌+◌, Bool, true, false, cond, not, ◌&&◌, eqb, List, [], ◌∷◌, ◌++◌, length, sym, refl, ap, ◌∙◌, ap₂, inl, inr, append_assoc, append-nil, arith, length-append}
-use Rattle.std.specs.List.{AllByRecursion as All}
+use Rattle.std.specs.List.{AllByRecursion}
 use Rattle.std.proofs.ByRecursion.{All-push}
 use Rattle.std.proofs.lemmas.Bool.{eqb-true, cases_Bool, ne_eqb, both_ways}
 use Rattle.network.specs.Network.{Link}
@@ -23,16 +23,16 @@ into-push p (d ∷ ls) l (y ∷ bs) b e =
     let r : L ≡ into p ls bs ++ S = into-push p ls l bs b (omega arith) in
     elim (eqb p d.to) as (λ v. cond v (y ∷ L) L ≡ cond v (y ∷ into p ls bs) (into p ls bs) ++ S) [ true ↦ ap (λ x. y ∷ x) r | false ↦ r ]
 
-into-all : (P : Packet → Type 0) (p : ℕ) (ls : List Link) (bs : List Packet) → All P bs → All P (into p ls bs)
+into-all : (P : Packet → Type 0) (p : ℕ) (ls : List Link) (bs : List Packet) → AllByRecursion P bs → AllByRecursion P (into p ls bs)
 unfolding into
 into-all P p [] bs a = tt
 into-all P p (l ∷ ls) [] a = tt
 into-all P p (l ∷ ls) (b ∷ bs) a =
-    let r : All P (into p ls bs) = into-all P p ls bs a.1 in
-    elim (eqb p l.to) as (λ v. All P (cond v (b ∷ into p ls bs) (into p ls bs))) [ true ↦ (a.0, r) | false ↦ r ]
+    let r : AllByRecursion P (into p ls bs) = into-all P p ls bs a.1 in
+    elim (eqb p l.to) as (λ v. AllByRecursion P (cond v (b ∷ into p ls bs) (into p ls bs))) [ true ↦ (a.0, r) | false ↦ r ]
 
-hand-all : (P : Packet → Type 0) (p : ℕ) (m : List Packet) (ls : List Link) (bs : List Packet) → All P m → All P bs → All P (hand p m ls bs)
-hand-all P p m ls bs am a = elim (eqb p 0) as (λ v. All P (cond v m (into p ls bs))) [ true ↦ am | false ↦ into-all P p ls bs a ]
+hand-all : (P : Packet → Type 0) (p : ℕ) (m : List Packet) (ls : List Link) (bs : List Packet) → AllByRecursion P m → AllByRecursion P bs → AllByRecursion P (hand p m ls bs)
+hand-all P p m ls bs am a = elim (eqb p 0) as (λ v. AllByRecursion P (cond v m (into p ls bs))) [ true ↦ am | false ↦ into-all P p ls bs a ]
 
 abbrev crosses : (ℕ → Bool) → Link → Bool
 crosses side l = side l.from && not (side l.to)
@@ -50,8 +50,8 @@ cond-tuple P true n x xs p t = record { count = omega arith; each = (p, t.each) 
 cond-tuple P false n x xs p t = record { count = omega arith; each = t.each }
 
 -- an honest scheme sends as many packets over them as there are such links
-pub crossed-tuple : (n q : ℕ) (side : ℕ → Bool) (f : Scheme) → Honest n q f → (m : List Packet) → All (IsPacket n q) m
-    → (k : ℕ) (before ls : List Link) (bs : List Packet) → All (IsPacket n q) bs → Tuple (out side ls) (IsPacket n q) (crossed side f m k before ls bs)
+pub crossed-tuple : (n q : ℕ) (side : ℕ → Bool) (f : Scheme) → Honest n q f → (m : List Packet) → AllByRecursion (IsPacket n q) m
+    → (k : ℕ) (before ls : List Link) (bs : List Packet) → AllByRecursion (IsPacket n q) bs → Tuple (out side ls) (IsPacket n q) (crossed side f m k before ls bs)
 unfolding crossed out
 crossed-tuple n q side f ho m am k before [] bs a = record { count = refl; each = tt }
 crossed-tuple n q side f ho m am k before (l ∷ ls) bs a =

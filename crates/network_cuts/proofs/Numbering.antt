@@ -5,7 +5,7 @@
 use Rattle.std.proofs.Common.{◌≡◌, ℕ, zero, suc, ◌+◌, ◌*◌, ◌/◌, ◌%◌, ◌^◌, ◌<◌, ◌≤◌, List, [], ◌∷◌, length, sym, refl, ap, ◌∙◌, ap₂, mod-lt, div-lt_iff_lt-mul, pow-suc, div-add-mod', mul-one, arith}
 use native.Mathlib.Nat.{pow-zero, pow-le-pow_right, mul-lt-mul_of_pos_left}
 use lib.Arith.{digits_lt, digits_div, digits_mod}
-use Rattle.std.specs.List.{AllByRecursion as All}
+use Rattle.std.specs.List.{AllByRecursion}
 use Rattle.network_cuts.specs.Across.{Tuple, Collision}
 use Rattle.network_cuts.proofs.Pigeonhole.{meet}
 
@@ -36,12 +36,12 @@ module _ {A : Type 0} {P : A → Type 0} {c : ℕ} (N : Numbering P c) (pos : 0 
   nths-count zero i = refl
   nths-count (suc n) i = ap suc (nths-count n (i / c))
 
-  nths-each : (n i : ℕ) → All P (nths n i)
+  nths-each : (n i : ℕ) → AllByRecursion P (nths n i)
   unfolding nths
   nths-each zero i = tt
   nths-each (suc n) i = (N.nth-is (i % c) (mod-lt i pos), nths-each n (i / c))
 
-  numbers-below : (xs : List A) → All P xs → numbers xs < c ^ length xs
+  numbers-below : (xs : List A) → AllByRecursion P xs → numbers xs < c ^ length xs
   unfolding numbers
   numbers-below [] a = rw pow-zero (omega arith)
   numbers-below (x ∷ xs) a = rw pow-suc (digits_lt (numbers-below xs a.1) (N.number-below x a.0))
@@ -53,7 +53,7 @@ module _ {A : Type 0} {P : A → Type 0} {c : ℕ} (N : Numbering P c) (pos : 0 
       let r : numbers (nths n (i / c)) ≡ i / c = numbers-nths n (i / c) ((div-lt_iff_lt-mul pos).1 (rw pow-suc at l)) in
       ap₂ (λ a b. a * c + b) r (N.number-nth (i % c) (mod-lt i pos)) ∙ div-add-mod' i c
 
-  nths-numbers : (xs : List A) → All P xs → nths (length xs) (numbers xs) ≡ xs
+  nths-numbers : (xs : List A) → AllByRecursion P xs → nths (length xs) (numbers xs) ≡ xs
   unfolding numbers nths
   nths-numbers [] a = refl
   nths-numbers (x ∷ xs) a =

@@ -9,14 +9,14 @@
 -- receiver is not the source: the links may stand in any order.
 -- Assumes nothing.
 use Rattle.std.specs.Prelude.{◌≡◌, ℕ, ◌<◌, ◌≤◌, List, length}
-use Rattle.std.specs.List.{AllByRecursion as All}
+use Rattle.std.specs.List.{AllByRecursion}
 use Rattle.network.specs.Network.{Network}
 use Rattle.network_cuts.specs.Scheme.{Packet, Scheme, got}
 use Rattle.network_cuts.specs.Cut.{Cut}
 
 pub record Tuple {A : Type 0} (n : ℕ) (P : A → Type 0) (xs : List A) : Type 0 where
   pub count : length xs ≡ n
-  pub each : All P xs
+  pub each : AllByRecursion P xs
 
 -- the symbols are the numbers below q
 abbrev pub IsPacket : (n q : ℕ) → Packet → Type 0
@@ -26,7 +26,7 @@ abbrev pub Message : (n q h : ℕ) → List Packet → Type 0
 Message n q h = Tuple h (IsPacket n q)
 
 abbrev pub Honest : (n q : ℕ) → Scheme → Type 0
-Honest n q f = (k : ℕ) (bs : List Packet) → All (IsPacket n q) bs → IsPacket n q (f k bs)
+Honest n q f = (k : ℕ) (bs : List Packet) → AllByRecursion (IsPacket n q) bs → IsPacket n q (f k bs)
 
 -- two different elements of which P holds, and that F takes to the same
 pub record Collision {A B : Type 0} (P : A → Type 0) (F : A → B) : Type 0 where

@@ -1,6 +1,6 @@
 -- Lists out of which a node is put together, and what a plan that fits says of them.
 use Rattle.std.proofs.Common.{◌≡◌, ℕ, zero, suc, ◌+◌, ◌*◌, ◌<◌, ◌≤◌, true, false, cond, eqb, ◌⊎◌, List, [], ◌∷◌, ◌++◌, map, length, get_or, take, drop, vec_items, sym, refl, ap, ◌∙◌, subst, ap₂, inl, inr, append-nil, suc-mul, one-mul, zero-mul, mul-one, arith, length-append, drop-drop}
-use Rattle.std.specs.List.{range_with_len, flat_map, AllByRecursion as All}
+use Rattle.std.specs.List.{range_with_len, flat_map, AllByRecursion}
 use Rattle.std.proofs.lemmas.List.FromFn.{fill_by_all}
 use Rattle.std.proofs.ByRecursion.{All-get_or}
 use Rattle.std.proofs.lemmas.List.{get_or-map, length-map, take_at, drop_at, take_more, map_more, flat_map_more, length-take-le}
@@ -94,11 +94,11 @@ place_none k (j ∷ ks) h =
 
 -- ROWS SIDE BY SIDE
 
-pub length-joined : {A : Type 0} (w : ℕ) (xss : List (List A)) → All (λ xs. length xs ≡ w) xss → length (flat_map (λ q. q) xss) ≡ length xss * w
+pub length-joined : {A : Type 0} (w : ℕ) (xss : List (List A)) → AllByRecursion (λ xs. length xs ≡ w) xss → length (flat_map (λ q. q) xss) ≡ length xss * w
 length-joined w [] h = sym (zero-mul w)
 length-joined w (xs ∷ xss) h = length-append xs (flat_map (λ q. q) xss) ∙ omega (arith, h.0, length-joined w xss h.1, suc-mul (length xss) w)
 
-pub part-joined : {A : Type 0} (w : ℕ) (xss : List (List A)) (j : ℕ) → All (λ xs. length xs ≡ w) xss → j < length xss → part w j (flat_map (λ q. q) xss) ≡ get_or xss j []
+pub part-joined : {A : Type 0} (w : ℕ) (xss : List (List A)) (j : ℕ) → AllByRecursion (λ xs. length xs ≡ w) xss → j < length xss → part w j (flat_map (λ q. q) xss) ≡ get_or xss j []
 part-joined w [] j h l = absurd (omega arith)
 part-joined w (xs ∷ xss) zero h l = rw (zero-mul w) (take_at xs (flat_map (λ q. q) xss) w h.0)
 part-joined w (xs ∷ xss) (suc j) h l =
@@ -183,12 +183,12 @@ module _ (m : Multicast) (cs : List (List ℕ)) (rs : List Reader) (fits : Fits 
   pub out_below : (i : ℕ) → i < length (outs m.network p) → get_or (outs m.network p) i 0 < length cs
   out_below i l = omega (arith, many, (out_at _ (in-at _ (outs m.network p) i l refl)).0)
 
-  all-picked : (ks : List ℕ) → ((k : ℕ) → is_in k ks ≡ true → length (row_at cs k) ≡ length (entries m p) * width m p) → All (λ q. length q ≡ length (entries m p) * width m p) (picked cs ks)
+  all-picked : (ks : List ℕ) → ((k : ℕ) → is_in k ks ≡ true → length (row_at cs k) ≡ length (entries m p) * width m p) → AllByRecursion (λ q. length q ≡ length (entries m p) * width m p) (picked cs ks)
   unfolding is_in
   all-picked [] h = tt
   all-picked (k ∷ ks) h = (h k (or_left _ _ (eq-eqb k k refl)), all-picked ks (λ j t. h j (or_right _ _ t)))
 
-  rows_long : All (λ q. length q ≡ length (entries m p) * width m p) (picked cs (outs m.network p))
+  rows_long : AllByRecursion (λ q. length q ≡ length (entries m p) * width m p) (picked cs (outs m.network p))
   rows_long = all-picked (outs m.network p) (λ k h. let a = out_at k h in row-long k a.0 a.1)
 
   pub coded : length (flat_map (λ q. q) (picked cs (outs m.network p))) ≡ length (outs m.network p) * (length (entries m p) * width m p)
@@ -250,7 +250,7 @@ module _ (m : Multicast) (cs : List (List ℕ)) (rs : List Reader) (fits : Fits 
   rows_back =
       let s = suits.1 in
       sym (fill_by_all (λ j. part (length standing) j (flat_map (λ q. q) reader.rows)) reader.rows (length standing) [] (s.square ∙ sym standing-long)
-      (λ j l. sym (part-joined (length standing) reader.rows j (subst (λ n. All (λ row. length row ≡ n) reader.rows) (sym standing-long) s.long) (omega (arith, s.square, standing-long)))))
+      (λ j l. sym (part-joined (length standing) reader.rows j (subst (λ n. AllByRecursion (λ row. length row ≡ n) reader.rows) (sym standing-long) s.long) (omega (arith, s.square, standing-long)))))
 
   pub reads : (bs : List Packet) → read_by byte_field 1024 (map (λ j. part (length standing) j (flat_map (λ q. q) reader.rows)) (range_with_len 0 (length standing))) (map (λ i. row_at bs i) standing) ≡ read_from (ins m.network p) (reader_for p m.receivers rs) bs
   reads bs = ap₂ (read_by byte_field 1024) rows_back (map-map bs reader.links)

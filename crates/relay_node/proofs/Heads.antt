@@ -1,6 +1,6 @@
 -- Records: heads of fixed length, behind which the packet or the message lies.
 use Rattle.std.proofs.Common.{◌≡◌, ℕ, ◌+◌, ◌*◌, ◌<◌, ◌≤◌, Bool, true, false, cond, ◌&&◌, eqb, ltb, List, [], ◌∷◌, ◌++◌, length, get_or, take, drop, set, sym, refl, ap, ◌∙◌, subst, ap₂, inl, inr, append-nil, arith}
-use Rattle.std.specs.List.{flat_map, AllByRecursion as All}
+use Rattle.std.specs.List.{flat_map, AllByRecursion}
 use borrow.Rule.Slice.PartMut.{put_mid}
 use Rattle.std.proofs.lemmas.List.{drop_all, length-drop}
 use Rattle.std.proofs.lemmas.List.FromFn.{fill_by_all}
@@ -38,7 +38,7 @@ unfolding word_at
 message-round round ps = omega arith
 
 -- packets that are joined are cut again
-cut-joined : (ps : List Packet) → All (λ p. length p ≡ 1024) ps → cut (length ps) (flat_map (λ p. p) ps) ≡ ps
+cut-joined : (ps : List Packet) → AllByRecursion (λ p. length p ≡ 1024) ps → cut (length ps) (flat_map (λ p. p) ps) ≡ ps
 cut-joined ps all = sym (fill_by_all (λ j. part 1024 j (flat_map (λ p. p) ps)) ps (length ps) [] refl (λ j l. sym (part-joined 1024 ps j all l)))
 
 module _ (source : Bool) (h : ℕ) (ins : List ℕ) (s : State (List Packet)) where
@@ -51,7 +51,7 @@ module _ (source : Bool) (h : ℕ) (ins : List ℕ) (s : State (List Packet)) wh
   no-message true x y z = refl
   no-message false x y z = refl
 
-  message-same : (round : ℕ) (ps : List Packet) → All (λ p. length p ≡ 1024) ps
+  message-same : (round : ℕ) (ps : List Packet) → AllByRecursion (λ p. length p ≡ 1024) ps
       → take_message source h ins s round (flat_map (λ p. p) ps) ≡ cond (source && eqb (length ps) h) (receive ins s (parcel 0 round ps)) (refused 1)
   message-same round ps all =
       let long : length (flat_map (λ p. p) ps) ≡ length ps * 1024 = length-joined 1024 ps all in
@@ -61,7 +61,7 @@ module _ (source : Bool) (h : ℕ) (ins : List ℕ) (s : State (List Packet)) wh
         | inr o ↦ rw (ne_eqb (length (flat_map (λ p. p) ps)) (h * 1024) (λ q. o (omega arith)), ne_eqb (length ps) h o) (no-message source _ _ _)
       ]
 
-  messages-back : (round : ℕ) (ps : List Packet) → All (λ p. length p ≡ 1024) ps
+  messages-back : (round : ℕ) (ps : List Packet) → AllByRecursion (λ p. length p ≡ 1024) ps
       → take_record source h ins s (message_record round ps) ≡ cond (source && eqb (length ps) h) (receive ins s (parcel 0 round ps)) (refused 1)
   messages-back round ps all =
       let some : ltb 4 (length (message_record round ps)) ≡ true = lt-ltb 4 (length (message_record round ps)) (omega arith) in

@@ -6,7 +6,7 @@
 --   ReadBack            what is written is read back
 -- Assumes nothing.
 use Rattle.std.specs.Prelude.{◌≡◌, ℕ, ◌+◌, ◌*◌, ◌/◌, ◌%◌, Bool, cond, ◌&&◌, List, ◌∷◌, ◌++◌, length, drop, ◌==◌, nat_lt, slice_index}
-use Rattle.std.specs.List.{flat_map, AllByRecursion as All}
+use Rattle.std.specs.List.{flat_map, AllByRecursion}
 use Rattle.octets.specs.Words.{word_bytes, word_at}
 use Rattle.network_cuts.specs.Scheme.{Packet}
 use Rattle.relay_theory.specs.Relay.{State, Answer, refused, receive}
@@ -36,5 +36,5 @@ take_record source h ins s bs =
 pub record ReadBack : Type 0 where
   pub packets : (source : Bool) (h : ℕ) (ins : List ℕ) (s : State (List Packet)) (link round : ℕ) (packet : Packet) → length packet ≡ 1024
       → take_record source h ins s (packet_record link round packet) ≡ take_packet source ins s link round packet
-  pub messages : (source : Bool) (h : ℕ) (ins : List ℕ) (s : State (List Packet)) (round : ℕ) (ps : List Packet) → All (λ p. length p ≡ 1024) ps
+  pub messages : (source : Bool) (h : ℕ) (ins : List ℕ) (s : State (List Packet)) (round : ℕ) (ps : List Packet) → AllByRecursion (λ p. length p ≡ 1024) ps
       → take_record source h ins s (message_record round ps) ≡ cond (source && length ps == h) (receive ins s (parcel 0 round ps)) (refused 1)

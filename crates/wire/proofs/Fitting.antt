@@ -1,6 +1,6 @@
 -- A plan that fits has counts that two bytes hold.
 use Rattle.std.proofs.Common.{◌≡◌, ℕ, ◌+◌, ◌<◌, ◌≤◌, Bool, true, false, cond, eqb, List, [], ◌∷◌, map, length, ap, arith}
-use Rattle.std.specs.List.{AllByRecursion as All}
+use Rattle.std.specs.List.{AllByRecursion}
 use Rattle.network.specs.Network.{Link, Multicast, Accepted}
 use Rattle.wire.specs.Plan.{feeding, hand_at, hands}
 
@@ -20,7 +20,7 @@ hand-few m ok p = by (eqb p 0)
     by true = omega (arith, ok.rates.1)
     by false = omega (arith, feeding-few p m.network.links, ok.limits.2)
 
-few-hands : (m : Multicast) → Accepted m → (ls : List Link) (cs : List (List ℕ)) → map length cs ≡ map (λ l. hand_at m l.from) ls → All (λ row. length row < 65536) cs
+few-hands : (m : Multicast) → Accepted m → (ls : List Link) (cs : List (List ℕ)) → map length cs ≡ map (λ l. hand_at m l.from) ls → AllByRecursion (λ row. length row < 65536) cs
 few-hands m ok ls [] e = tt
 few-hands m ok [] (c ∷ cs) e = absurd (let z = ap length e in omega arith)
 few-hands m ok (l ∷ ls) (c ∷ cs) e =
@@ -28,5 +28,5 @@ few-hands m ok (l ∷ ls) (c ∷ cs) e =
     let rest : map length cs ≡ map (λ l. hand_at m l.from) ls = cc in
     (omega (arith, first, hand-few m ok l.from), few-hands m ok ls cs rest)
 
-pub short-rows : (m : Multicast) → Accepted m → (cs : List (List ℕ)) → map length cs ≡ hands m → All (λ row. length row < 65536) cs
+pub short-rows : (m : Multicast) → Accepted m → (cs : List (List ℕ)) → map length cs ≡ hands m → AllByRecursion (λ row. length row < 65536) cs
 short-rows m ok cs e = few-hands m ok m.network.links cs e

@@ -1,6 +1,6 @@
 -- The items of a plan that serves: coefficients of a link, and links and rows of a receiver.
 use Rattle.std.proofs.Common.{◌≡◌, ℕ, zero, suc, ◌+◌, ◌*◌, ◌≤◌, Bool, true, false, cond, ◌&&◌, eqb, ltb, List, [], ◌∷◌, ◌++◌, map, length, take, drop, sym, refl, ap, ◌∙◌, subst, ap₂, append_assoc, suc-mul, arith}
-use Rattle.std.specs.List.{range_with_len, flat_map, AllByRecursion as All}
+use Rattle.std.specs.List.{range_with_len, flat_map, AllByRecursion}
 use Rattle.std.proofs.lemmas.List.FromFn.{fill_by_all, length-map-range_with_len, get_or-map-range_with_len}
 use Rattle.std.proofs.lemmas.List.{length-append, length-take-le, length-drop, take_at, drop_at, drop-drop, take-append-drop}
 use Rattle.std.proofs.lemmas.Bool.{and_parts, eq-eqb, eqb-true, lt-ltb, ltb-true}
@@ -63,7 +63,7 @@ unfolding rows_in
 length-rows h zero bs = refl
 length-rows h (suc n) bs = ap suc (length-rows h n (drop h bs))
 
-rows_long : (h n w : ℕ) (bs : List ℕ) → n * h ≡ w → w ≤ length bs → All (λ row. length row ≡ h) (rows_in h n bs)
+rows_long : (h n w : ℕ) (bs : List ℕ) → n * h ≡ w → w ≤ length bs → AllByRecursion (λ row. length row ≡ h) (rows_in h n bs)
 unfolding rows_in
 rows_long h zero w bs e l = tt
 rows_long h (suc n) w bs e l = (
@@ -83,12 +83,12 @@ rows-kept h (suc n) w bs e l =
     behind : w ≡ h + n * h
     behind = omega (arith, suc-mul n h)
 
-length-joined : (h n : ℕ) (rows : List (List ℕ)) → length rows ≡ n → All (λ row. length row ≡ h) rows → length (flat_map (λ row. row) rows) ≡ n * h
+length-joined : (h n : ℕ) (rows : List (List ℕ)) → length rows ≡ n → AllByRecursion (λ row. length row ≡ h) rows → length (flat_map (λ row. row) rows) ≡ n * h
 length-joined h n [] e a = omega (arith, ap (λ k. k * h) e)
 length-joined h zero (row ∷ rows) e a = absurd (omega arith)
 length-joined h (suc n) (row ∷ rows) e a = omega (arith, suc-mul n h, a.0, length-append row (flat_map (λ row. row) rows), length-joined h n rows (omega arith) a.1)
 
-rows_back : (h n : ℕ) (rows : List (List ℕ)) (rest : List ℕ) → length rows ≡ n → All (λ row. length row ≡ h) rows → rows_in h n (flat_map (λ row. row) rows ++ rest) ≡ rows
+rows_back : (h n : ℕ) (rows : List (List ℕ)) (rest : List ℕ) → length rows ≡ n → AllByRecursion (λ row. length row ≡ h) rows → rows_in h n (flat_map (λ row. row) rows ++ rest) ≡ rows
 unfolding rows_in
 rows_back h zero [] rest e a = refl
 rows_back h zero (row ∷ rows) rest e a = absurd (omega arith)
@@ -126,7 +126,7 @@ words-kept-0 n bs s h =
 -- RECEIVERS
 
 -- the test passes just where all links come in
-pub come-true : (ls : List Link) (p : ℕ) (ks : List ℕ) → all_come ls p ks ≡ true → All (Comes ls p) ks
+pub come-true : (ls : List Link) (p : ℕ) (ks : List ℕ) → all_come ls p ks ≡ true → AllByRecursion (Comes ls p) ks
 unfolding all_come
 come-true ls p [] e = tt
 come-true ls p (k ∷ ks) e =
@@ -134,7 +134,7 @@ come-true ls p (k ∷ ks) e =
     let two = and_parts (ltb k (length ls)) (eqb (link_at ls k).to p) both.0 in
     ((ltb-true k (length ls) two.0, eqb-true (link_at ls k).to p two.1), come-true ls p ks both.1)
 
-pub true-come : (ls : List Link) (p : ℕ) (ks : List ℕ) → All (Comes ls p) ks → all_come ls p ks ≡ true
+pub true-come : (ls : List Link) (p : ℕ) (ks : List ℕ) → AllByRecursion (Comes ls p) ks → all_come ls p ks ≡ true
 unfolding all_come
 true-come ls p [] a = refl
 true-come ls p (k ∷ ks) a = rw (lt-ltb k (length ls) a.0.0, eq-eqb (link_at ls k).to p a.0.1, true-come ls p ks a.1)

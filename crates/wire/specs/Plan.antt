@@ -7,7 +7,7 @@
 -- Whether a plan that fits serves its receivers is another matter.
 -- Assumes nothing.
 use Rattle.std.specs.Prelude.{◌≡◌, ℕ, ◌+◌, ◌<◌, Bool, true, false, cond, List, [], ◌∷◌, map, length, ◌==◌, slice_index, slice_index_or}
-use Rattle.std.specs.List.{AllByRecursion as All}
+use Rattle.std.specs.List.{AllByRecursion}
 use Rattle.network.specs.Network.{Link, Multicast, link_at}
 
 -- the packets on the links, in this order, are mixed by row k to packet k of the message
@@ -43,9 +43,9 @@ Matched R (x ∷ xs) (y ∷ ys) = R x y × Matched R xs ys
 -- of a receiver at node p, h packets to a message
 pub record Suits (ls : List Link) (h p : ℕ) (r : Reader) : Type 0 where
   pub many : length r.links ≡ h
-  pub lead : All (Comes ls p) r.links
+  pub lead : AllByRecursion (Comes ls p) r.links
   pub square : length r.rows ≡ h
-  pub long : All (λ row. length row ≡ h) r.rows
+  pub long : AllByRecursion (λ row. length row ≡ h) r.rows
 
 abbrev pub Fits : Multicast → Plan → Type 0
 Fits m (served cs rs) = (map length cs ≡ hands m) × Matched (Suits m.network.links m.rate) m.receivers rs

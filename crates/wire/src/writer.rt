@@ -1,6 +1,6 @@
 // Writing a plan.
 ghost use Rattle.std.specs.Prelude.{◌≡◌, ℕ, ◌+◌, ◌<◌, ◌≤◌, [], ◌++◌, map, length, IfOk, vec_items, OnOk};
-ghost use Rattle.std.specs.List.{flat_map, AllByRecursion as All};
+ghost use Rattle.std.specs.List.{flat_map, AllByRecursion};
 ghost use Rattle.network.specs.Values.{value};
 ghost use Rattle.wire.specs.Plan.{served, unserved, Fits};
 ghost use Rattle.wire.specs.Format.{got, link_bytes, reader_bytes, flag_byte, side_bytes, plan_bytes, read_plan};
@@ -24,7 +24,7 @@ pub fn write(heap: Global, net: &Multicast, plan: &Plan) -> Result<Vec<u8>, Allo
 }
 
 fn write_served(heap: Global, coded: &Coded) -> Result<Vec<u8>, AllocError>
-    requires { All (λ row. length row < 65536) (map vec_items coded.now.coefficients.items) }
+    requires { AllByRecursion (λ row. length row < 65536) (map vec_items coded.now.coefficients.items) }
     ensures { IfOk result (λ v. v.items ≡ plan_bytes (served (map vec_items coded.now.coefficients.items) (map reader coded.now.receivers.items))) }
 {
     let mut out = Vec::new(heap);
@@ -48,7 +48,7 @@ fn write_cut(heap: Global, receiver: u16, side: &[bool; 256]) -> Result<Vec<u8>,
 
 // For each link how many coefficients it has, and the coefficients.
 fn put_coefficients(out: &mut Vec<u8>, rows: &[Vec<u8>]) -> Result<(), AllocError>
-    requires { All (λ row. length row < 65536) (map vec_items rows.now) }
+    requires { AllByRecursion (λ row. length row < 65536) (map vec_items rows.now) }
     ensures { OnOk result (out.new.items ≡ out.old.items ++ flat_map link_bytes (map vec_items rows.now)) }
 {
     for row in rows {
