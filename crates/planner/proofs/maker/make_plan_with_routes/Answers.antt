@@ -56,6 +56,7 @@ returns-in_ok-coded-in-Paths c =
     ∙ ap (planned (graph m.network) m.rate) (sym e) in
     record {
       routes = e;
+      serves = subst (λ x. Serving (value m) x) c.in-Paths.is c.in_ok-aims.ensures.serves;
       exact = exact;
       promise = subst (Main (value m)) (sym exact) (main-promise (value m) (accepted m));
       fits = subst (Fits (value m)) (sym exact) (plan-fits (value m) (accepted m));
@@ -70,6 +71,7 @@ returns-in-Cut c =
     ap (unserved c.in-Cut.receiver) (same_flags c.in-Cut.side e.0 long e.2) ∙ ap (planned (graph m.network) m.rate) (sym e.1) in
     record {
       routes = e;
+      serves = subst (λ x. Serving (value m) x) c.in-Cut.is c.in_ok-aims.ensures.serves;
       exact = exact;
       promise = subst (Main (value m)) (sym exact) (main-promise (value m) (accepted m));
       fits = subst (Fits (value m)) (sym exact) (plan-fits (value m) (accepted m));
