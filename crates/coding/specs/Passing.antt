@@ -1,9 +1,9 @@
 -- The receivers when link e with vector v is passed. Defines, in this order:
 --   aim_of, aims_of    the receivers with their paths, as the definition has them
---   place_of          on which path of receiver i the link lies
---   Moved            a receiver when the link takes its place on path j
---   Ready            receiver i can be served by v, if the link lies on one of its paths
---   PassedAll        what becomes of receiver i
+--   place_of           on which path of receiver i the link lies
+--   Moved              a receiver when the link takes its place on path j
+--   Ready              receiver i can be served by v, if the link lies on one of its paths
+--   PassedAll          what becomes of receiver i
 -- Assumes nothing.
 use Rattle.std.specs.Prelude.{◌≡◌, ℕ, ◌<◌, ◌≤◌, List, map, get_or, vec_items, slice_index_or, slice_set}
 use Rattle.gf.proofs.Fields.{byte_field}

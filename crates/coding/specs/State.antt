@@ -1,12 +1,12 @@
 -- The code's state between two links, and what it stands for. Defines, in this order:
---   Served           what is given: a rate, not too many receivers, and paths to each
+--   Served            what is given: a rate, not too many receivers, and paths to each
 --   up_to             the definition's coefficients, vectors and receivers after the first e links
---   Stands           a receiver of the code stands for one of the definition
---   Begun            it stands for one before the first link
---   State            vectors and receivers of the code stand for those of the definition after e links
+--   Stands            a receiver of the code stands for one of the definition
+--   Begun             it stands for one before the first link
+--   State             vectors and receivers of the code stand for those of the definition after e links
 --   chosen_at         the definition's coefficients of link e
 --   vector_at         the definition's vector of link e
---   Carries          a vector of the code is that one
+--   Carries           a vector of the code is that one
 -- Assumes nothing.
 use Rattle.std.specs.Prelude.{◌≡◌, ℕ, ◌<◌, ◌≤◌, ◌⊎◌, List, [], map, length, take, slice_index, slice_index_or}
 use Rattle.gf.proofs.Fields.{byte_field}

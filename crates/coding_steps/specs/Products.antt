@@ -3,8 +3,8 @@
 --   all_served ps t         before + t · added is not 0 for any of the pairs
 --   trial_of name names     1 for the packet of this name, and 0 for the others
 --   last_of rows            the last row
---   Added                  what becomes of coefficients and vector when t times the vector u is added
---   Extended               what becomes of coefficients and vector when the receiver of the last row is to be served
+--   Added                   what becomes of coefficients and vector when t times the vector u is added
+--   Extended                what becomes of coefficients and vector when the receiver of the last row is to be served
 -- Assumes nothing.
 use Rattle.std.specs.Prelude.{◌≡◌, ℕ, ◌-◌, ◌<◌, Bool, true, cond, not, ◌&&◌, List, [], ◌∷◌, map, length, ◌==◌, ◌≢◌, bit_xor}
 use Rattle.gf.proofs.Fields.{byte_field}

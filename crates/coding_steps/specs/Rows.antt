@@ -1,5 +1,5 @@
 -- Dual rows of vectors of bytes. Defines, in this order:
---   bytes_of vs        the bytes of each vector
+--   bytes_of vs       the bytes of each vector
 --   Counted h vs      each of the first h vectors has h coefficients
 --   AllCounted h vs   all of them have
 --   SameRows h d e    the first h places of the first h rows are the same

@@ -1,15 +1,15 @@
 -- Coefficients for all receivers at once: which mix of what is at hand each link carries, and by which rows each receiver reads.
 -- The definition can be run: dual rows test whether a vector serves a receiver. Defines, in this order:
 --   Carrier          what carries a packet: the message itself, or a link
---   on_carrier        the packet, or the vector, that it carries
---   at_hand           the carriers of the packets at hand at a node
+--   on_carrier       the packet, or the vector, that it carries
+--   at_hand          the carriers of the packets at hand at a node
 --   trial            1 for one carrier, and 0 for all others
 --   place            on which of a receiver's paths a link lies
 --   Receiver, start  a receiver with its current carriers and dual rows, and how it begins
 --   Want, wants      what the receivers on whose paths a link lies want of it
 --   next, choose     the coefficients after one more receiver, and after all
 --   passed           a receiver when a link is passed
---   Coded, one_more   coefficients, vectors and receivers after the links so far, and after one more
+--   Coded, one_more  coefficients, vectors and receivers after the links so far, and after one more
 --   along, code      after all links of a network
 --   linear           the scheme: each link carries the mix of what is at hand by its coefficients
 --   packets, rows    the packets on a receiver's current carriers, and the rows by which they are mixed to give the message

@@ -1,6 +1,6 @@
 -- Paths to the receivers, as they are given. Defines, in this order:
 --   Each P xs        P holds of each element of a list
---   is_on e w         link e is on the path w
+--   is_on e w        link e is on the path w
 --   IsPath ls n p w  w is a path from node n to node p
 --   Aim              a receiver's node, and paths to it
 --   Given ls h a     these are h paths from the source, which share no link

@@ -1,9 +1,9 @@
 -- Which coefficients are prescribed, in the subject's own words: with independent vectors in place of dual rows. In this order:
 --   last_before, now    what carries a path's packet when it is the turn of link e: the last of the path's links before e
---   Claim, claims      the receivers on one of whose paths a link lies
---   Serves             when a vector serves such a receiver
---   Leads              how the receivers, one after the other, lead to the coefficients of a link
---   Prescribed         the coefficients and the vectors of all links are those prescribed
+--   Claim, claims       the receivers on one of whose paths a link lies
+--   Serves              when a vector serves such a receiver
+--   Leads               how the receivers, one after the other, lead to the coefficients of a link
+--   Prescribed          the coefficients and the vectors of all links are those prescribed
 -- Assumes nothing.
 use Rattle.std.specs.Prelude.{◌≡◌, ℕ, cond, List, [], ◌∷◌, ◌++◌, map, length, take, nat_lt}
 use Rattle.gf.specs.Field.{Field}

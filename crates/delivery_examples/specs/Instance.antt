@@ -1,5 +1,5 @@
 -- A net and a plan that meet the premises of the theorems on delivery. Defines, in this order:
---   one_link                    the source, a receiver, and a link between them, over which each message's one packet goes
+--   one_link                   the source, a receiver, and a link between them, over which each message's one packet goes
 --   coefficients, readers      its plan
 --   Met                        the plan is the prescribed one, serves the receiver, fits, and delivers
 use Rattle.std.specs.Prelude.{◌≡◌, List, [], ◌∷◌, ℕ}

@@ -1,9 +1,9 @@
 -- A plan at work: what each link carries, and what each receiver reads from what came in. Defines, in this order:
---   working     the scheme of a plan: each link carries the mix of what is at hand by its coefficients, in packets of 1024 bytes
---   place       where a link stands in a list of links
+--   working      the scheme of a plan: each link carries the mix of what is at hand by its coefficients, in packets of 1024 bytes
+--   place        where a link stands in a list of links
 --   read_from    what a receiver reads from what came in over all its links
 --   reader_for   the reader of the receiver at a node; one without rows where there is none
---   reading     what the receivers of a net read
+--   reading      what the receivers of a net read
 -- Assumes nothing.
 use Rattle.std.specs.Prelude.{ℕ, ◌+◌, cond, List, [], ◌∷◌, map, ◌==◌}
 use Rattle.gf.proofs.Fields.{byte_field}

@@ -1,10 +1,10 @@
 -- What the queue of the search stands for. Defines, in this order:
---   reached_at        the node at a place, as it was reached
+--   reached_at         the node at a place, as it was reached
 --   ways_on, ways_of   the ways that the queue stands for
---   Marked           that the nodes reached are marked
---   Linked, Queued   that each node was reached from one before it; with it, the marks
---   Bounded          that all nodes reached are below a bound
---   Sought           that the search went far enough
+--   Marked             that the nodes reached are marked
+--   Linked, Queued     that each node was reached from one before it; with it, the marks
+--   Bounded            that all nodes reached are below a bound
+--   Sought             that the search went far enough
 -- Assumes nothing.
 use Rattle.std.specs.Prelude.{◌≡◌, ℕ, ◌<◌, Bool, false, List, [], ◌∷◌, ◌++◌, length, get_or, slice_index_or}
 use Rattle.network.specs.Network.{Network}

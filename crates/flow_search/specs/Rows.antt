@@ -1,7 +1,7 @@
 -- The links of a network listed by their ends. Defines, in this order:
 --   start, row_of    where a node's list starts in a value of `Rows`, and the list
---   Lists           that the lists are, for each node, the links that have it as an end, by rising number
---   Adjoins         that a value of `Adjacency` lists the links of a network
+--   Lists            that the lists are, for each node, the links that have it as an end, by rising number
+--   Adjoins          that a value of `Adjacency` lists the links of a network
 -- Assumes nothing.
 use Rattle.std.specs.Prelude.{◌≡◌, ℕ, ◌+◌, ◌-◌, ◌<◌, ◌≤◌, List, length, take, drop, vec_items, vec_len, slice_index}
 use Rattle.network.specs.Network.{Network, link_at}

@@ -1,6 +1,6 @@
 -- The field of bytes, modulo x^8 + x^4 + x^3 + x + 1, which is 0x11b. The sum is bit_xor.
 --   times_x   the product of a byte with x
---   times    the product of two bytes
+--   times     the product of two bytes
 use Rattle.std.specs.Prelude.{ℕ}
 use Rattle.gf.specs.Polynomial.{mul, xtime}
 

@@ -1,7 +1,7 @@
 -- Vectors of up to 32 bytes, padded with zeros to 32.
 --   SumOf        r is the sum of x and y, place by place
 --   MultipleOf   r is x times a factor, place by place
---   dot_of        the sum of the products of the first n places of x and y
+--   dot_of       the sum of the products of the first n places of x and y
 use Rattle.std.specs.Prelude.{◌≡◌, ℕ, ◌<◌, List, bit_xor, slice_index}
 use Rattle.gf.specs.Sum.{sum}
 use Rattle.gf_bytes.specs.Byte.{times}

@@ -1,11 +1,11 @@
 -- A coefficient that serves all. Receivers test the vector that a link is to carry, each by its dual row. In this order:
---   Left size n forbids     one of the numbers from 1 to size - 1 that none of n forbids
---   SomeLeft                where fewer than size - 1 forbid at most one number each, one is left
---   added hands cs ds t     the mix of what is at hand by the coefficients cs, with t times the trial coefficients ds added
+--   Left size n forbids      one of the numbers from 1 to size - 1 that none of n forbids
+--   SomeLeft                 where fewer than size - 1 forbid at most one number each, one is left
+--   added hands cs ds t      the mix of what is at hand by the coefficients cs, with t times the trial coefficients ds added
 --   serves_all h v tests     the vector v serves all these rows
---   ForbidsAtMostOne        a row that is served before anything is added forbids at most one t
---   ForbidsNone             a row that isn't, and that the trial coefficients alone would serve, forbids no t but 0
---   TFound                  so there is a lowest t that serves all, and `lowest` finds it
+--   ForbidsAtMostOne         a row that is served before anything is added forbids at most one t
+--   ForbidsNone              a row that isn't, and that the trial coefficients alone would serve, forbids no t but 0
+--   TFound                   so there is a lowest t that serves all, and `lowest` finds it
 use Rattle.std.specs.Prelude.{◌≡◌, ℕ, ◌+◌, ◌-◌, ◌<◌, Bool, true, false, ◌&&◌, List, [], ◌∷◌, length}
 use Rattle.gf.specs.Field.{Field}
 use Rattle.linear.specs.Vectors.{plus, scale, mix}

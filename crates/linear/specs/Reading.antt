@@ -1,5 +1,5 @@
 -- Rows by which a message is read from packets. In this order:
---   read_by n qs bs      what the rows qs make of packets
+--   read_by n qs bs     what the rows qs make of packets
 --   transpose h d       rows and columns exchanged
 --   Square h qs         h rows of h elements
 --   Delivers n h b p    whatever the message m, packet j of p m is its mix by the coding vector b j

@@ -3,7 +3,7 @@
 --   net_in      the net whose bytes they would be, by the places of its parts
 --   fault_in    the first item with a fault, and its lowest fault
 --   read_net    the net, or that fault
---   Local      a fault does not depend on what lies behind its item
+--   Local       a fault does not depend on what lies behind its item
 -- Assumes nothing.
 use Rattle.std.specs.Prelude.{◌≡◌, ℕ, zero, suc, ◌+◌, ◌*◌, ◌≤◌, Bool, false, cond, not, ◌&&◌, ◌||◌, List, ◌∷◌, ◌++◌, map, length, take, ◌==◌, nat_le, nat_lt, slice_index}
 use Rattle.std.specs.List.{range_with_len, flat_map}

@@ -1,9 +1,11 @@
 -- What the program's values stand for. Defines, in this order:
 --   Finds         that a value is what the definition finds for all receivers
 --   Serving       what it promises: paths for every receiver, or the first whom no scheme whatever could serve
+--   reader, plan  those of `wire`: the reader, and the plan, that a value is
 -- Assumes nothing.
 use Rattle.std.specs.Prelude.{◌≡◌, ℕ, Bool, map, vec_items}
 use Rattle.network.specs.Network.{Multicast}
+pub use Rattle.wire.specs.Values.{reader, plan}
 use Rattle.flow.specs.Augment.{Marks}
 use Rattle.coding_theory.specs.Paths.{Each, Given}
 use Rattle.coding.specs.Passing.{aims_of}

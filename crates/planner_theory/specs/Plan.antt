@@ -1,13 +1,14 @@
 -- The plan of a net. Defines, in this order:
+--   Reader, Plan      those of `wire`: what a receiver reads by; coefficients and readers, or a receiver with its cut
 --   Routed, route     the receivers in order: paths for each, or the first with a cut
---   reader_of          a receiver's current links and rows, when all links are passed
---   plan_of            the plan
+--   reader_of         a receiver's current links and rows, when all links are passed
+--   plan_of           the plan
 -- Assumes nothing.
 use Rattle.std.specs.Prelude.{ℕ, Bool, List, [], ◌∷◌, map}
 use Rattle.gf.proofs.Fields.{byte_field}
 use Rattle.linear.specs.Vectors.{table}
 use Rattle.network.specs.Network.{Network, Multicast}
-use Rattle.wire.specs.Plan.{Reader, Plan, served, unserved}
+pub use Rattle.wire.specs.Plan.{Reader, Plan, served, unserved}
 use Rattle.flow_theory.specs.Flow.{Found, paths, cut, paths_or_cut}
 use Rattle.coding_theory.specs.Paths.{Aim}
 use Rattle.coding_theory.specs.Coding.{Carrier, message, link, Receiver, current_at, Coded, code, rows}

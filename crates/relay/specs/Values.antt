@@ -1,11 +1,11 @@
 -- What the program's values stand for. Defines, in this order:
---   state    the state that the memory of a relay is
+--   state     the state that the memory of a relay is
 --   over_in   a round that has just ended, and the packets of it that lie in the memory
---   parcel   a packet with its link and its round
+--   parcel    a packet with its link and its round
 --   ended_in  the state, and the rounds that have just ended
---   Tells    what `take` tells of an arrival
---   scheme   what a node sends over each link out of it, by what came in
---   reading  what a receiver reads
+--   Tells     what `take` tells of an arrival
+--   scheme    what a node sends over each link out of it, by what came in
+--   reading   what a receiver reads
 -- Assumes nothing.
 use Rattle.std.specs.Prelude.{◌≡◌, ℕ, ◌≤◌, List, map, length, vec_items}
 use Rattle.std.specs.List.{range_with_len}

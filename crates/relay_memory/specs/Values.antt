@@ -1,9 +1,9 @@
 -- What the program's values stand for. Defines, in this order:
---   parcel   packets that come in at once, with their link and round
---   state    the state that the memory of a node is
+--   parcel    packets that come in at once, with their link and round
+--   state     the state that the memory of a node is
 --   over_in   a round that has just ended, and what lies in the memory of it
 --   ended_in  the state, and the rounds that have just ended
---   Tells    what is told of what comes in
+--   Tells     what is told of what comes in
 -- Assumes nothing.
 use Rattle.std.specs.Prelude.{◌≡◌, ℕ, ◌+◌, ◌≤◌, List, map, length, vec_items}
 use Rattle.std.specs.List.{range_with_len}

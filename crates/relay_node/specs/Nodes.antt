@@ -1,10 +1,10 @@
 -- The node at a place of a net, at work by a plan. Defines, in this order:
---   width, entries    how many packets come in there at once, and over which links
---   Works             a node that sends and reads as the plan says
---   At                the same of a whole plan: none does where receivers are not served
---   refusal           why there is no node at a place, by its number, the lowest that applies; 0 where there is one
+--   width, entries     how many packets come in there at once, and over which links
+--   Works              a node that sends and reads as the plan says
+--   At                 the same of a whole plan: none does where receivers are not served
+--   refusal            why there is no node at a place, by its number, the lowest that applies; 0 where there is one
 --   receiver_refusal   the same of a receiver
---   Begun             what is answered where a node is asked for: one at which nothing has come in
+--   Begun              what is answered where a node is asked for: one at which nothing has come in
 -- Assumes nothing.
 use Rattle.std.specs.Prelude.{◌≡◌, ℕ, true, cond, not, ◌&&◌, List, Ok, Err, vec_items, Result, ◌==◌, nat_lt}
 use Rattle.network.specs.Network.{Multicast}

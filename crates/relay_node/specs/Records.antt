@@ -1,9 +1,9 @@
 -- Packets and messages in records of bytes, numbers with the high byte first. Defines, in this order:
 --   long_bytes, long_at   the bytes of a number of four bytes; the number in the four bytes from a place on
---   packet_record        the bytes of a packet with its link and its round
---   message_record       the bytes of a message with its round
---   take_record          what comes of a record at a node
---   ReadBack            what is written is read back
+--   packet_record         the bytes of a packet with its link and its round
+--   message_record        the bytes of a message with its round
+--   take_record           what comes of a record at a node
+--   ReadBack              what is written is read back
 -- Assumes nothing.
 use Rattle.std.specs.Prelude.{◌≡◌, ℕ, ◌+◌, ◌*◌, ◌/◌, ◌%◌, Bool, cond, ◌&&◌, List, ◌∷◌, ◌++◌, length, drop, ◌==◌, nat_lt, slice_index}
 use Rattle.std.specs.List.{flat_map, AllByRecursion}

@@ -1,13 +1,13 @@
 -- One relay or receiver, round by round. Defines, in this order:
---   Parcel            what comes in or goes out, with its link and its round
---   find              what there is for a link and a round
---   State, fresh      the round that a relay works at, and what it keeps
+--   Parcel             what comes in or goes out, with its link and its round
+--   find               what there is for a link and a round
+--   State, fresh       the round that a relay works at, and what it keeps
 --   is_over, ends      when a round is over, and the rounds that end one after the other
---   receive           what comes of an arrival: the number of a refusal, or the new state and the rounds that ended
+--   receive            what comes of an arrival: the number of a refusal, or the new state and the rounds that ended
 --   receive_all        the same of arrivals one after the other
---   sent, readings    what a relay sends for the rounds that ended, and what a receiver puts out for them
+--   sent, readings     what a relay sends for the rounds that ended, and what a receiver puts out for them
 --   at_source, origin  the source, to which whole messages come in over the one link `origin`
---   numbers           the links at a node
+--   numbers            the links at a node
 -- A is the type of what comes in: a packet, and at the source a whole message.
 -- Assumes nothing.
 use Rattle.std.specs.Prelude.{ℕ, zero, suc, ◌+◌, Bool, true, false, cond, not, ◌&&◌, ◌||◌, List, [], ◌∷◌, ◌++◌, ◌==◌, nat_lt}

@@ -1,7 +1,7 @@
 -- A run over four nodes in which packets come early, so that three rounds end at once; and what one relay refuses. Defines, in this order:
 --   diamond                   the source 0 to the relays 1 and 2, and both to the receiver 3
 --   marked, plain             a scheme whose packets say over which link they went and what was at hand; a receiver that reads what came in
---   out_of_order                three messages begin, and all packets arrive, later rounds first
+--   out_of_order              three messages begin, and all packets arrive, later rounds first
 --   waiting                   a relay with the links 4 and 5 in, at work at round 3, that keeps one packet for round 5
 --   Computed                  what comes of them; and the premises of the theorems on runs can be met
 use Rattle.std.specs.Prelude.{◌≡◌, List, [], ◌∷◌, ◌++◌, ℕ}

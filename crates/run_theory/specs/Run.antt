@@ -3,7 +3,7 @@
 --   Config, start     what the network holds at a moment: messages begun, states, packets under way, what was put out
 --   Event, Outcome    the source begins a message, or a packet arrives; and what comes of it
 --   ins, outs         the links into a node, and out of it
---   third_before       the rule by which the source waits: all have ended the third round before
+--   third_before      the rule by which the source waits: all have ended the third round before
 --   step, run         one event, and all events from the start, by any rule of when the source may begin
 -- Assumes nothing.
 use Rattle.std.specs.Prelude.{ℕ, zero, suc, ◌+◌, Bool, true, cond, not, ◌&&◌, ◌||◌, List, [], ◌∷◌, ◌++◌, length, ◌==◌, nat_lt}
