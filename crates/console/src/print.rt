@@ -1,4 +1,10 @@
 // Printing links and cuts, in the words of the formats.
+ghost use Rattle.std.specs.Prelude.{◌≡◌, ◌<◌, vec_len};
+ghost use Rattle.network.specs.Network.{link_at};
+ghost use Rattle.network.specs.Values.{graph};
+ghost use Rattle.network_cuts.specs.Cut.{out};
+ghost use Rattle.console.specs.Side.{within, leaves};
+
 use network::Network;
 use std::io;
 use std::io::Write;
@@ -14,13 +20,26 @@ pub fn write_line<W: Write>(out: &mut W, network: &Network, k: usize) -> io::Res
 }
 
 // Whether line k leads out of the set.
-fn leads_out(network: &Network, side: &[bool; 256], k: usize) -> bool {
-    if k >= network.from.len() || k >= network.to.len() {
-        return false;
-    }
+fn leads_out(network: &Network, side: &[bool; 256], k: usize) -> bool
+    requires { k < vec_len network.now.from }
+    ensures { result ≡ leaves side.now (link_at (graph network.now).links k) }
+{
     let from = network.from[k] as usize;
     let to = network.to[k] as usize;
-    from < 256 && to < 256 && side[from] && !side[to]
+    side[from] && !side[to]
+}
+
+// How many lines lead out of the set.
+fn count_out(network: &Network, side: &[bool; 256]) -> u16
+    ensures { result ≡ out (within side.now) (graph network.now).links }
+{
+    let mut count = 0u16;
+    for k in 0..network.from.len() {
+        if leads_out(network, side, k) {
+            count += 1;
+        }
+    }
+    count
 }
 
 pub fn write_cut<W: Write>(
@@ -29,12 +48,7 @@ pub fn write_cut<W: Write>(
     listener: u16,
     side: &[bool; 256],
 ) -> io::Result<()> {
-    let mut count = 0u16;
-    for k in 0..network.from.len() {
-        if leads_out(network, side, k) {
-            count = count.saturating_add(1);
-        }
-    }
+    let count = count_out(network, side);
     writeln!(out, "listener {listener}: cut, {count} lines lead out")?;
     for k in 0..network.from.len() {
         if leads_out(network, side, k) {

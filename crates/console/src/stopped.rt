@@ -1,4 +1,7 @@
 // Stopping early.
+ghost use Rattle.std.specs.Prelude.{◌≡◌, MatchResult};
+ghost use Rattle.std.specs.Process.{exit_status};
+
 use std::io;
 use std::process::ExitCode;
 
@@ -13,7 +16,9 @@ impl From<io::Error> for Stopped {
 }
 
 // The status that a program ends with. Why it stopped, it has said.
-pub fn status(done: Result<(), Stopped>) -> ExitCode {
+pub fn status(done: Result<(), Stopped>) -> ExitCode
+    ensures { MatchResult done (λ _. exit_status result ≡ 0) (λ _. exit_status result ≡ 1) }
+{
     match done {
         Ok(()) => ExitCode::SUCCESS,
         Err(Stopped) => ExitCode::FAILURE,

@@ -1,31 +1,37 @@
 // Records on standard input.
-ghost use Rattle.std.specs.Prelude.{◌≤◌, length, IfOk};
+ghost use Rattle.std.specs.Prelude.{◌≡◌, ◌+◌, ◌*◌, ◌<◌, ◌≤◌, length, take, Ok, IfOk, IsErr, MatchResult, if◌then◌else◌};
+ghost use Rattle.std.specs.Io.KnownBytes.{Consumes, IsAtEnd};
 
 use console::Stopped;
+use gf_bytes::PACKET_LENGTH;
 use relay_node::{Node, PACKET_RECORD_LENGTH, Refusal};
 use std::io;
 use std::io::Read;
 
 // How long the records are that come in at a node.
-pub fn record_length(node: &Node) -> usize {
+pub fn record_length(node: &Node) -> usize
+    ensures { result ≡ (if node.now.source then 5 + node.now.slots.width * 1024 else 1031) }
+{
     if node.source {
-        return node.slots.width.saturating_mul(1024).saturating_add(5);
+        return 5 + node.slots.width * PACKET_LENGTH;
     }
     PACKET_RECORD_LENGTH
 }
 
-// Reads until the record is full or the input ends: how many bytes there are.
+// Reads until the record is full or the input ends: how many bytes there are. They are those that the input has next.
 pub fn fill<R: Read>(input: &mut R, bytes: &mut [u8]) -> io::Result<usize>
-    ensures { IfOk result (λ n. n ≤ length bytes.old) }
+    ensures count { IfOk result (λ n. n ≤ length bytes.old) }
+    ensures next { IfOk result (λ n. Consumes (R.remaining input.old) (R.remaining input.new) (take n bytes.new)) }
+    ensures end { IfOk result (λ n. n < length bytes.old → IsAtEnd (R.remaining input.new)) }
 {
     let mut at = 0usize;
-    for _ in 0..bytes.len() {
+    for turn in 0..bytes.len() {
         if at >= bytes.len() {
-            break;
+            return Ok(at);
         }
         let n = input.read(&mut bytes[at..])?;
         if n == 0 {
-            break;
+            return Ok(at);
         }
         at += n;
     }
@@ -38,7 +44,9 @@ pub fn or_stop<T: Drop>(
     program: &str,
     what: &str,
     res: io::Result<T>,
-) -> Result<T, Stopped> {
+) -> Result<T, Stopped>
+    ensures { MatchResult res (λ x. result ≡ Ok x) (λ _. IsErr result) }
+{
     match res {
         Ok(x) => Ok(x),
         Err(e) => {

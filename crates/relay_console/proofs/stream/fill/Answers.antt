@@ -1,0 +1,26 @@
+use Rattle.std.proofs.Common.{◌≡◌, ℕ, ◌+◌, ◌-◌, ◌≤◌, List, ◌++◌, rules, arith, length, take, sym, ap, ◌∙◌, subst, length-take-le}
+use Rattle.std.proofs.Math.Seq.{take-append-add}
+use Rattle.std.proofs.lemmas.List.{take-append-le}
+use Rattle.std.specs.Io.KnownBytes.{Consumes}
+use Rattle.std.proofs.KnownBytes.{Consumes-trans}
+use borrow.Rule.Slice.PartMut.{put_mid, post_of}
+use Rattle.relay_console.proofs.stream.fill.Goals as goal
+
+-- n elements of what was put from place a on stand behind the first a
+take-put_mid : (a k n : ℕ) (xs ys : List ℕ) → a ≤ length xs → n ≤ length ys → take a xs ++ take n ys ≡ take (a + n) (put_mid a k xs ys)
+take-put_mid a k n xs ys within fits =
+    let long : length (take a xs) ≡ a = length-take-le a xs within in
+    sym (ap (λ m. take (m + n) (put_mid a k xs ys)) (sym long) ∙ take-append-add (take a xs) (ys ++ post_of a k xs) n
+    ∙ ap (λ l. take a xs ++ l) (take-append-le n ys (post_of a k xs) fits))
+
+pub loop-turn-preserved : goal.loop-turn-preserved
+loop-turn-preserved g c =
+    let at = c.loop-turn.at in
+    let room = length c.loop-turn.bytes - at in
+    let inv = c.loop-turn.invariant in
+    record {
+      long = search rules;
+      within = search rules;
+      on = omega arith;
+      next = subst (Consumes _ _) (take-put_mid at room c.in_ok-n.n c.loop-turn.bytes c.read.new.buf inv.within c.in_ok-n.ensures.bound.0) (Consumes-trans _ _ _ _ _ inv.next c.in_ok-n.ensures.bytes.0);
+    }
