@@ -1,16 +1,20 @@
 // Printing links and cuts, in the words of the formats.
-ghost use Rattle.std.specs.Prelude.{◌≡◌, ◌<◌, vec_len};
+ghost use Rattle.std.specs.Prelude.{◌≡◌, ◌<◌, OnOk, vec_len};
 ghost use Rattle.network.specs.Network.{link_at};
 ghost use Rattle.network.specs.Values.{graph};
 ghost use Rattle.network_cuts.specs.Cut.{out};
 ghost use Rattle.console.specs.Side.{within, leaves};
+ghost use Rattle.console.specs.Text.{line_text};
+ghost use Rattle.std.specs.Io.KnownBytes.{Appends};
 
 use network::Network;
 use std::io;
 use std::io::Write;
 
-// A line by its number and its ends.
-pub fn write_line<W: Write>(out: &mut W, network: &Network, k: usize) -> io::Result<()> {
+// A line by its number and its ends; nothing where there is none.
+pub fn write_line<W: Write>(out: &mut W, network: &Network, k: usize) -> io::Result<()>
+    ensures { OnOk result (k < vec_len network.now.from → Appends (W.contents out.old) (W.contents out.new) (line_text k (link_at (graph network.now).links k))) }
+{
     if k < network.from.len() && k < network.to.len() {
         let from = network.from[k];
         let to = network.to[k];
