@@ -1,11 +1,11 @@
 // Printing links and cuts, in the words of the formats.
-ghost use Rattle.std.specs.Prelude.{◌≡◌, ◌<◌, OnOk, vec_len};
+ghost use Rattle.std.specs.Prelude.{◌≡◌, ◌<◌, ◌≤◌, OnOk, vec_len};
+ghost use Rattle.std.specs.Io.KnownBytes.{Appends, Keeps};
 ghost use Rattle.network.specs.Network.{link_at};
 ghost use Rattle.network.specs.Values.{graph};
 ghost use Rattle.network_cuts.specs.Cut.{out};
 ghost use Rattle.console.specs.Side.{within, leaves};
-ghost use Rattle.console.specs.Text.{line_text};
-ghost use Rattle.std.specs.Io.KnownBytes.{Appends};
+ghost use Rattle.console.specs.Text.{line_text, line_out, cut_text};
 
 use network::Network;
 use std::io;
@@ -13,7 +13,8 @@ use std::io::Write;
 
 // A line by its number and its ends; nothing where there is none.
 pub fn write_line<W: Write>(out: &mut W, network: &Network, k: usize) -> io::Result<()>
-    ensures { OnOk result (k < vec_len network.now.from → Appends (W.contents out.old) (W.contents out.new) (line_text k (link_at (graph network.now).links k))) }
+    ensures line { OnOk result (k < vec_len network.now.from → Appends (W.contents out.old) (W.contents out.new) (line_text k (link_at (graph network.now).links k))) }
+    ensures none { OnOk result (vec_len network.now.from ≤ k → Keeps (W.contents out.old) (W.contents out.new)) }
 {
     if k < network.from.len() && k < network.to.len() {
         let from = network.from[k];
@@ -46,20 +47,37 @@ fn count_out(network: &Network, side: &[bool; 256]) -> u16
     count
 }
 
+// Line k, if it leads out of the set.
+fn write_if_out<W: Write>(
+    out: &mut W,
+    network: &Network,
+    side: &[bool; 256],
+    k: usize,
+) -> io::Result<()>
+    requires { k < vec_len network.now.from }
+    ensures { OnOk result (Appends (W.contents out.old) (W.contents out.new) (line_out side.now k (link_at (graph network.now).links k))) }
+{
+    if leads_out(network, side, k) {
+        write!(out, "  ")?;
+        write_line(out, network, k)?;
+        writeln!(out)?;
+    }
+    Ok(())
+}
+
+// A listener with a cut, and the lines that lead out of it.
 pub fn write_cut<W: Write>(
     out: &mut W,
     network: &Network,
     listener: u16,
     side: &[bool; 256],
-) -> io::Result<()> {
+) -> io::Result<()>
+    ensures { OnOk result (Appends (W.contents out.old) (W.contents out.new) (cut_text side.now listener (graph network.now).links)) }
+{
     let count = count_out(network, side);
     writeln!(out, "listener {listener}: cut, {count} lines lead out")?;
     for k in 0..network.from.len() {
-        if leads_out(network, side, k) {
-            write!(out, "  ")?;
-            write_line(out, network, k)?;
-            writeln!(out)?;
-        }
+        write_if_out(out, network, side, k)?;
     }
     Ok(())
 }

@@ -4,8 +4,8 @@ use Rattle.network.specs.Values.{graph}
 use Rattle.console.proofs.Side.{read-from, read-to}
 use Rattle.console.proofs.print.write_line.Goals as goal
 
-pub returns-in_ok-write : goal.returns-in_ok-write
-returns-in_ok-write g c =
+pub returns-in_ok-write-clause-line : goal.returns-in_ok-write-clause-line
+returns-in_ok-write-clause-line g c =
     λ h.
     let z = c.args.network.now in
     let k = c.args.k in
