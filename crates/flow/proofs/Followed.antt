@@ -1,12 +1,12 @@
 -- Following used links step by step: each link taken is one used link fewer, which is how many steps the definition still has.
 use Rattle.std.proofs.Common.{◌≡◌, ℕ, zero, suc, ◌+◌, ◌<◌, Bool, true, false, cond, not, ◌&&◌, eqb, ltb, List, [], ◌∷◌, ◌++◌, length, get_or, drop, set, vec_items, vec_len, sym, refl, ap, ◌∙◌, subst, append_assoc, append-nil, arith}
 use mathlib.Core.Bool.{beq}
-use Rattle.std.proofs.lemmas.List.{at_drop_more, get_or_read_under}
+use Rattle.std.proofs.lemmas.List.{at_drop_more}
 use Rattle.std.proofs.lemmas.Bool.{eq-eqb, ne_eqb, lt-ltb, le-ltb, cond-true, cond-false, and_from, and_right, not_from_false}
 use Rattle.network.specs.Network.{Link, link_at}
 use Rattle.network.specs.Values.{graph}
 use Rattle.network.specs.declared.net.Network.{Network as Columns}
-use Rattle.network.proofs.Sound.{to_is, links-long}
+use Rattle.network.proofs.Sound.{to_is, links-long, ends-at}
 use Rattle.flow_theory.specs.Flow.{is_used, out_of, flagged, turn, turn_all, used_count, lowest, follow, parted}
 use Rattle.flow_theory.proofs.Lists.{Every, listed-every, flagged-every}
 use Rattle.flow_theory.proofs.Follow.{Out, count_less}
@@ -79,8 +79,8 @@ module _ (z : Columns) (us : List Bool) (q : ℕ) (row : List ℕ) (listed : row
 
   pub end_read : (x : ℕ) → x ≡ get_or (vec_items z.to) k x → (x < z.nodes) × (x ≡ (link_at (graph z).links k).to)
   end_read x e =
-      let a = get_or_read_under (vec_items z.to) k (vec_len z.to) x 0 e (omega (arith, found_below, z.level)) z.to.ok.0 in
-      (omega (arith, a, (z.within k found_below).1), a ∙ sym (to_is z k found_below))
+      let a = ends-at z k x found_below e in
+      (omega (arith, a, to_is z k found_below, (z.within k found_below).1), sym a)
 
 -- one path more
 pub parted-more : (ls : List Link) (p m : ℕ) (us us' : List Bool) (path : List ℕ) → path ≡ follow ls p (used_count us) 0 us → us' ≡ turn_all (follow ls p (used_count us) 0 us) us → parted ls p (suc m) us ≡ path ∷ parted ls p m us'

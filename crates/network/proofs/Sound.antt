@@ -1,6 +1,7 @@
 -- Every value of the program is an accepted net: its invariants, which speak of columns, say so of the links.
-use Rattle.std.proofs.Common.{◌≡◌, ℕ, zero, suc, ◌<◌, List, [], ◌∷◌, length, get_or, vec_items, vec_len, sym, refl, ap, inl, inr, arith}
+use Rattle.std.proofs.Common.{◌≡◌, ℕ, zero, suc, ◌<◌, List, [], ◌∷◌, length, get_or, vec_items, vec_len, sym, refl, ap, ◌∙◌, inl, inr, arith}
 use Rattle.std.proofs.lemmas.Bool.{cases_Bool}
+use Rattle.std.proofs.lemmas.List.{get_or_read_under}
 use Rattle.network.specs.Network.{paired, link_at, Fed, Sound, Accepted}
 use Rattle.network.specs.Format.{among}
 use Rattle.network.specs.Values.{graph, value}
@@ -49,6 +50,13 @@ module _ (z : Columns) where
 
   pub to_is : (k : ℕ) → k < vec_len z.from → (link_at (graph z).links k).to ≡ get_or ts k 0
   to_is k h = (paired_at fs ts k level (omega (arith, z.from.ok.0))).1
+
+  -- what the program reads of the columns at k is an end of link k
+  pub begins-at : (k x : ℕ) → k < vec_len z.from → x ≡ get_or fs k x → (link_at (graph z).links k).from ≡ x
+  begins-at k x h e = from_is k h ∙ sym (get_or_read_under fs k (vec_len z.from) x 0 e h z.from.ok.0)
+
+  pub ends-at : (k x : ℕ) → k < vec_len z.from → x ≡ get_or ts k x → (link_at (graph z).links k).to ≡ x
+  ends-at k x h e = to_is k h ∙ sym (get_or_read_under ts k (vec_len z.from) x 0 e h (omega (arith, level, z.from.ok.0)))
 
   pub sound : Sound (graph z)
   sound =

@@ -1,10 +1,10 @@
 -- The same by what the program reads: the columns of the net, and nodes by their places.
-use Rattle.std.proofs.Common.{◌≡◌, ℕ, ◌+◌, ◌-◌, ◌^◌, ◌<◌, true, cond, length, get_or, set, vec_items, vec_len, sym, ◌∙◌, subst, arith}
+use Rattle.std.proofs.Common.{◌≡◌, ℕ, ◌+◌, ◌-◌, ◌^◌, ◌<◌, true, cond, length, get_or, set, vec_items, vec_len, sym, subst, arith}
 use Rattle.std.proofs.lemmas.List.{get_or_read_under}
 use Rattle.network.specs.Network.{Multicast, link_at}
 use Rattle.network.specs.Values.{value}
 use Rattle.network.specs.declared.net.Multicast.{Multicast as Net}
-use Rattle.network.proofs.Sound.{links-long, from_is, to_is, accepted}
+use Rattle.network.proofs.Sound.{links-long, accepted, begins-at, ends-at}
 use Rattle.network_cuts.specs.Scheme.{Packet}
 use Rattle.relay_theory.specs.Relay.{is_in, at_source}
 use Rattle.relay_node.specs.Steps.{take_packet}
@@ -18,18 +18,12 @@ use Rattle.run.specs.Zero.{zeros}
 use Rattle.run.specs.declared.player.Player.{Player}
 use Rattle.run.proofs.Pass.{right-packet, passed_on}
 
-pub begins-at : (net : Net) (k x : ℕ) → k < vec_len net.network.from → x ≡ get_or (vec_items net.network.from) k x → (link_at (value net).network.links k).from ≡ x
-begins-at net k x l e = from_is net.network k l ∙ sym (get_or_read_under (vec_items net.network.from) k _ x 0 e l net.network.from.ok.0)
-
-pub ends_at : (net : Net) (k x : ℕ) → k < vec_len net.network.from → x ≡ get_or (vec_items net.network.to) k x → (link_at (value net).network.links k).to ≡ x
-ends_at net k x l e = to_is net.network k l ∙ sym (get_or_read_under (vec_items net.network.to) k _ x 0 e (omega (arith, net.network.level)) net.network.to.ok.0)
-
 -- both ends are places of the net
 pub begins-within : (net : Net) (k x : ℕ) → k < vec_len net.network.from → x ≡ get_or (vec_items net.network.from) k x → x < net.network.nodes
-begins-within net k x l e = rw (sym (begins-at net k x l e)) ((accepted net).sound.within k (omega (arith, links-long net.network))).0
+begins-within net k x l e = rw (sym (begins-at net.network k x l e)) ((accepted net).sound.within k (omega (arith, links-long net.network))).0
 
 pub ends-within : (net : Net) (k x : ℕ) → k < vec_len net.network.from → x ≡ get_or (vec_items net.network.to) k x → x < net.network.nodes
-ends-within net k x l e = rw (sym (ends_at net k x l e)) ((accepted net).sound.within k (omega (arith, links-long net.network))).1
+ends-within net k x l e = rw (sym (ends-at net.network k x l e)) ((accepted net).sound.within k (omega (arith, links-long net.network))).1
 
 abbrev pub Sends : Player → (k : ℕ) → Packet → (q : ℕ) → Type 0
 Sends y k packet q =

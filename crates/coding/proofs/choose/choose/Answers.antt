@@ -1,6 +1,6 @@
 use Rattle.std.proofs.Common.{◌≡◌, ℕ, ◌+◌, ◌<◌, ◌≤◌, List, [], ◌∷◌, ◌++◌, map, length, get_or, replicate, vec_items, vec_len, sym, ap, ◌∙◌, subst, arith, length-append}
 use lib.ListN.{length-map}
-use Rattle.std.proofs.lemmas.List.{get_or_default, with_items_is}
+use Rattle.std.proofs.lemmas.List.{with_items_is}
 use Rattle.std.proofs.lemmas.Option.{MatchOption-at_some}
 use Rattle.gf.proofs.Fields.{byte_field}
 use Rattle.linear.specs.Vectors.{dot}
@@ -9,7 +9,7 @@ use Rattle.linear.proofs.Lists.{get_d_map}
 use Rattle.network.specs.Network.{link_at}
 use Rattle.network.specs.Values.{graph}
 use Rattle.network.specs.declared.net.Network.{Network as Columns}
-use Rattle.network.proofs.Sound.{sound, links-long, from_is}
+use Rattle.network.proofs.Sound.{sound, links-long, begins-at}
 use Rattle.coding_theory.specs.Coding.{place, start}
 use Rattle.coding_steps.specs.Rows.{bytes_of, AllCounted}
 use Rattle.coding_steps.specs.Products.{product_of, all_served, trial_of, last_of, Extended}
@@ -22,7 +22,7 @@ use Rattle.coding.proofs.choose.choose.Goals as goal
 
 -- the node at which link e begins
 node-is : (z : Columns) (e node : ℕ) → e < vec_len z.from → node ≡ get_or (vec_items z.from) e node → node ≡ (link_at (graph z).links e).from
-node-is z e node l is = is ∙ get_or_default (vec_items z.from) e node 0 (omega (arith, z.from.ok.0)) ∙ sym (from_is z e l)
+node-is z e node l is = sym (begins-at z e node l is)
 
 -- the place that the code finds
 place_is : (as' : List Target) (i e j : ℕ) (x : Target) → i < length as' → j ≡ place e (map vec_items (vec_items (get_or as' i x).paths)) → j ≡ place e (get_or (aims_of as') i (aim_of x)).paths

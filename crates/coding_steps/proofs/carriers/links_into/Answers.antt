@@ -1,8 +1,7 @@
 use Rattle.std.proofs.Common.{◌≡◌, ◌<◌, map, length, take, vec_items, sym, ap, ◌∙◌, arith}
-use Rattle.std.proofs.lemmas.List.{get_or_default}
 use Rattle.network.specs.Network.{link_at}
 use Rattle.network.specs.Values.{graph}
-use Rattle.network.proofs.Sound.{level, links-long, to_is}
+use Rattle.network.proofs.Sound.{links-long, ends-at}
 use Rattle.coding_theory.specs.Coding.{link, incoming}
 use Rattle.coding_steps.proofs.AtHand.{into-here, into-there}
 use Rattle.coding_steps.proofs.carriers.links_into.Goals.{then-index-node+in_ok-push, else-index-node}
@@ -18,8 +17,7 @@ loop-k-preserved c =
     let ls = (graph z).links in
     let k = c.loop-k.k in
     let lk : k < length ls = omega (arith, links-long z, c.requires) in
-    let to : (link_at ls k).to ≡ c.index.result.now =
-    to_is z k (omega (arith, c.requires)) ∙ get_or_default (vec_items z.to) k 0 c.index.result.now (omega (arith, level z, z.from.ok.0, c.requires)) ∙ sym c.index.ensures in
+    let to : (link_at ls k).to ≡ c.index.result.now = ends-at z k c.index.result.now (omega (arith, c.requires)) c.index.ensures in
     elim c.if-index-node.branch [
       | then-index-node+in_ok-push w ↦
           rw w.names-is

@@ -2,7 +2,8 @@ use Rattle.std.proofs.Common.{not, ◌&&◌, sym, ap, ◌∙◌}
 use Rattle.network.specs.Network.{link_at}
 use Rattle.network.specs.Values.{graph}
 use Rattle.console.specs.Side.{within}
-use Rattle.console.proofs.Side.{leaves-from, read-from, read-to}
+use Rattle.network.proofs.Sound.{begins-at, ends-at}
+use Rattle.console.proofs.Side.{leaves-from}
 use Rattle.console.proofs.print.leads_out.Goals as goal
 
 pub returns-then-side-from : goal.returns-then-side-from
@@ -13,7 +14,7 @@ returns-then-side-from c =
     let from = c.index.result.now in
     let to = c.index-2.result.now in
     ap (λ b. b && not (within side to)) (sym c.if-side-from.true)
-    ∙ leaves-from side (link_at (graph z).links k) from to (read-from z k c.requires from c.index.ensures) (read-to z k c.requires to c.index-2.ensures)
+    ∙ leaves-from side (link_at (graph z).links k) from to (begins-at z k from c.requires c.index.ensures) (ends-at z k to c.requires c.index-2.ensures)
 
 pub returns-else-side-from : goal.returns-else-side-from
 returns-else-side-from c =
@@ -23,4 +24,4 @@ returns-else-side-from c =
     let from = c.index.result.now in
     let to = c.index-2.result.now in
     c.if-side-from.false ∙ ap (λ b. b && not (within side to)) (sym c.if-side-from.false)
-    ∙ leaves-from side (link_at (graph z).links k) from to (read-from z k c.requires from c.index.ensures) (read-to z k c.requires to c.index-2.ensures)
+    ∙ leaves-from side (link_at (graph z).links k) from to (begins-at z k from c.requires c.index.ensures) (ends-at z k to c.requires c.index-2.ensures)

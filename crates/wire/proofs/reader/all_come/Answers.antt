@@ -1,12 +1,12 @@
 use Rattle.std.proofs.Common.{◌≡◌, ℕ, ◌+◌, ◌*◌, ◌<◌, Bool, true, ◌&&◌, eqb, ltb, List, ◌∷◌, length, get_or, drop, vec_items, vec_len, sym, ap, ◌∙◌, arith}
 use Rattle.std.proofs.lemmas.List.FromFn.{length-map-range_with_len, get_or-map-range_with_len}
-use Rattle.std.proofs.lemmas.List.{drop_more, drop_all, get_or_read_under}
+use Rattle.std.proofs.lemmas.List.{drop_more, drop_all}
 use Rattle.std.proofs.lemmas.Bool.{lt-ltb, le-ltb, eq-eqb, ne_eqb, and_left, and_right}
 use Rattle.octets.specs.Words.{word_at}
 use Rattle.network.specs.Network.{Link, link_at}
 use Rattle.network.specs.Values.{graph}
 use Rattle.network.specs.declared.net.Network.{Network as Columns}
-use Rattle.network.proofs.Sound.{links-long, to_is}
+use Rattle.network.proofs.Sound.{links-long, ends-at}
 use Rattle.wire.specs.Format.{words_in, all_come}
 use Rattle.wire.proofs.reader.all_come.Goals as goal
 use Rattle.wire.proofs.reader.all_come.Goals.{then-link-len-via-then-link-len, then-link-len-via-else-link-len+then-index-node}
@@ -26,7 +26,7 @@ module _ (z : Columns) (link : ℕ) where
   there h = lt-ltb link (length (graph z).links) (omega (arith, z.level, links-long z))
 
   to_at : (to : ℕ) → link < vec_len z.to → to ≡ get_or (vec_items z.to) link to → (link_at (graph z).links link).to ≡ to
-  to_at to h is = to_is z link (omega (arith, z.level)) ∙ sym (get_or_read_under (vec_items z.to) link (vec_len z.to) to 0 is h z.to.ok.0)
+  to_at to h is = ends-at z link to (omega (arith, z.level)) is
 
 pub returns-then-link-len : goal.returns-then-link-len
 unfolding word_at
