@@ -1,10 +1,8 @@
 -- The coefficients of a link, receiver by receiver. `Chosen` is what the code holds when some receivers have had their turn: the
 -- coefficients are the definition's, the vector is their mix of what is at hand, and the rows are the receivers' tests. The code tests a t
 -- by two numbers for each row, since what a row makes of a sum is the sum of what it makes of both; the order of the tests doesn't matter.
-use Rattle.std.proofs.Common.{◌≡◌, ℕ, zero, suc, ◌+◌, ◌-◌, ◌<◌, ◌≤◌, Bool, true, false, cond, not, ◌&&◌, eqb, ltb, List, [], ◌∷◌, ◌++◌, map, length, sym, refl, ap, ◌∙◌, subst, ap₂, inl, inr, arith, length-append}
+use Rattle.std.proofs.Common.{◌≡◌, ℕ, zero, suc, ◌+◌, ◌<◌, ◌≤◌, Bool, true, false, cond, not, ◌&&◌, eqb, ltb, List, [], ◌∷◌, ◌++◌, map, length, sym, refl, ap, ◌∙◌, subst, ap₂, inl, inr, arith}
 use lib.Bits.{bit_xor}
-use lib.ListN.{length-map}
-use lib.Seq.{get_or-append_seam}
 use Rattle.std.proofs.lemmas.List.{map-append}
 use Rattle.std.proofs.lemmas.Bool.{cond-true, cond-false, cases_eq, and_from}
 use Rattle.gf.proofs.Fields.{byte_field}
@@ -19,12 +17,13 @@ use Rattle.linear.proofs.Sums.{by-same, by_left, none-by}
 use Rattle.linear.proofs.Lists.{at-mix, mix-plus, mix-scale}
 use Rattle.linear.proofs.Dual.{of-serves}
 use Rattle.linear.proofs.Choice.{dot-added, t-found}
-use Rattle.coding_theory.specs.Paths.{Each, none as no_more, and as also}
+use Rattle.std.specs.List.{All}
+use Rattle.std.proofs.lemmas.List.Elements.{All-head, All-tail}
 use Rattle.coding_theory.specs.Coding.{place, Carrier, trial, Receiver, current_at, Want, wants, next, choose}
 use Rattle.coding_theory.proofs.Choose.{Wanted, choose-serves}
 use Rattle.coding_theory.proofs.Carry.{both-push}
 use Rattle.coding_steps.specs.Rows.{bytes_of, AllCounted}
-use Rattle.coding_steps.specs.Products.{product_of, all_served, last_of, Extended}
+use Rattle.coding_steps.specs.Products.{product_of, all_served, Extended}
 
 -- ONE MORE AT THE END
 
@@ -64,12 +63,6 @@ length-done : (done : List (List ℕ)) (ws : List Want) → length (done_with do
 unfolding done_with
 length-done done [] = omega arith
 length-done done (w ∷ ws) = length-done (w.test ∷ done) ws ∙ omega arith
-
-last-push : (rows : List Vector) (x : Vector) → last_of (bytes_of (rows ++ x ∷ [])) ≡ x.bytes
-last-push rows x =
-    let e : length (bytes_of (rows ++ x ∷ [])) - 1 ≡ length (bytes_of rows) =
-    omega (arith, length-map (rows ++ x ∷ []) (λ v. v.bytes), length-append rows (x ∷ []), length-map rows (λ v. v.bytes)) in
-    ap (row (bytes_of (rows ++ x ∷ []))) e ∙ ap (λ q. row q (length (bytes_of rows))) (map-append (λ v. v.bytes) rows (x ∷ [])) ∙ get_or-append_seam (bytes_of rows) x.bytes [] []
 
 and-swap : (a b : Bool) → a && b ≡ b && a
 and-swap true true = refl
@@ -132,7 +125,7 @@ module _ (h : ℕ) (hands : List (List ℕ)) (cs ds v u : List ℕ)
 
   all-tests : (rows : List Vector) (ws : List Want) → Both (Like h) rows ws → (t : ℕ)
       → all_served (map (product_of h v u) (bytes_of rows)) t ≡ serves_all byte_field h (added byte_field hands cs ds t) (map test_of ws)
-  unfolding all_served serves_all
+  unfolding serves_all
   all-tests [] [] none t = refl
   all-tests [] (w ∷ ws) b t = elim b [ ]
   all-tests (x ∷ rows) [] b t = elim b [ ]
@@ -143,10 +136,11 @@ unfolding lowest
 lowest-same f g e zero t = refl
 lowest-same f g e (suc n) t = ap₂ (λ b x. cond b t x) (e t) (lowest-same f g e n (suc t))
 
-each_all : (h : ℕ) (v : List ℕ) (ws : List Want) → Each (λ w. serves byte_field h v w.test ≡ true) ws → serves_all byte_field h v (map test_of ws) ≡ true
+each_all : (h : ℕ) (v : List ℕ) (ws : List Want) → All (λ w. serves byte_field h v w.test ≡ true) ws → serves_all byte_field h v (map test_of ws) ≡ true
 unfolding serves_all
-each_all h v [] no_more = refl
-each_all h v (w ∷ ws) (also t ts) = and_from _ _ t (each_all h v ws ts)
+each_all h v [] a = refl
+each_all h v (w ∷ ws) a =
+    and_from _ _ (All-head (λ w. serves byte_field h v w.test ≡ true) w ws a) (each_all h v ws (All-tail (λ w. serves byte_field h v w.test ≡ true) w ws a))
 
 zeros-at : {A : Type 0} (xs : List A) (k : ℕ) → at (map (λ n. 0) xs) k ≡ 0
 zeros-at [] k = refl
@@ -184,9 +178,9 @@ module _ (h : ℕ) (hands : List (List ℕ)) (names : List Carrier) where
     more-counted = subst (λ n. AllCounted n rows') (sym c.count) (like-counted h rows' (ws ++ w ∷ []) tests')
 
     -- what the last row makes of the vector
-    last-is : dot byte_field v.count (last_of (bytes_of rows')) v.bytes ≡ dot byte_field h w.test (mix byte_field cs hands)
+    last-is : dot byte_field v.count x.bytes v.bytes ≡ dot byte_field h w.test (mix byte_field cs hands)
     last-is =
-        ap₂ (λ n q. dot byte_field n q v.bytes) c.count (last-push rows x)
+        ap (λ n. dot byte_field n x.bytes v.bytes) c.count
         ∙ by-same byte_field h (at x.bytes) (at w.test) (at v.bytes) (at (mix byte_field cs hands)) y.1 c.vector
 
     abbrev tests-of : ℕ → Bool
@@ -199,13 +193,13 @@ module _ (h : ℕ) (hands : List (List ℕ)) (names : List Carrier) where
         ∙ lowest-same _ tests-of
         (λ t. all-tests h hands cs w.trial v.bytes u c.vector is-u rows' (ws ++ w ∷ []) tests' t ∙ sym (same_tests h (added byte_field hands cs w.trial t) ws w)) 255 1
 
-    pub chosen-found : Each (Wanted byte_field h hands) ws → Wanted byte_field h hands w → 1 + length ws < 256
-        → dot byte_field v.count (last_of (bytes_of rows')) v.bytes ≡ 0 → lowest (all_served (map (product_of v.count v.bytes u) (bytes_of rows'))) 255 1 < 256
+    pub chosen-found : All (Wanted byte_field h hands) ws → Wanted byte_field h hands w → 1 + length ws < 256
+        → dot byte_field v.count x.bytes v.bytes ≡ 0 → lowest (all_served (map (product_of v.count v.bytes u) (bytes_of rows'))) 255 1 < 256
     unfolding serves_all
     chosen-found us wanted room z =
         let served = (choose-serves byte_field h hands ws [] (map (λ n. 0) names) refl us (omega arith)).1 in
         let all : serves_all byte_field h (mix byte_field cs hands) (done_with [] ws) ≡ true =
-        all_done h (mix byte_field cs hands) ws [] ∙ ap (λ b. b && true) (each_all h (mix byte_field cs hands) ws (subst (λ q. Each (λ w. serves byte_field h (mix byte_field q hands) w.test ≡ true) ws) (sym c.coefficients) served)) in
+        all_done h (mix byte_field cs hands) ws [] ∙ ap (λ b. b && true) (each_all h (mix byte_field cs hands) ws (subst (λ q. All (λ w. serves byte_field h (mix byte_field q hands) w.test ≡ true) ws) (sym c.coefficients) served)) in
         let low =
         t-found byte_field h hands (done_with [] ws) cs w.trial w.test all (ap (λ b. not (eqb b 0)) (sym last-is ∙ z))
         (of-serves byte_field h _ w.test (λ q. let n : ◌≡◌ {A = ℕ} 1 0 = sym wanted ∙ q in omega arith)) (omega (arith, length-done [] ws)) in
@@ -220,7 +214,7 @@ module _ (h : ℕ) (hands : List (List ℕ)) (names : List Carrier) where
     unfolding next
     next-adds z = cond-false _ _ _ (ap (λ b. not (eqb b 0)) z)
 
-    pub chosen_more : (cs' : List ℕ) (v' : Vector) → h ≤ 32 → Extended (bytes_of rows') u w.trial cs v cs' v' → Chosen (ws ++ w ∷ []) cs' v' rows'
+    pub chosen_more : (cs' : List ℕ) (v' : Vector) → h ≤ 32 → Extended (bytes_of rows') x.bytes u w.trial cs v cs' v' → Chosen (ws ++ w ∷ []) cs' v' rows'
     chosen_more cs' v' lh x' =
         elim (cases_eq (dot byte_field h w.test (mix byte_field cs hands)) 0) [
           | inl z ↦

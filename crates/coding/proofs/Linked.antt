@@ -1,48 +1,27 @@
 -- The turn of link e in a network: what the definition holds there (`Fine`) gives what the code needs of each receiver on whose path the
 -- link lies: the name of the packet of its trial set, which is at hand, the vector of that packet, and that some t serves all so far.
-use Rattle.std.proofs.Common.{◌≡◌, ℕ, zero, suc, ◌+◌, ◌<◌, true, false, cond, eqb, ltb, ◌⊎◌, List, [], ◌∷◌, ◌++◌, map, length, get_or, take, drop, sym, refl, ap, ◌∙◌, subst, ap₂, inl, inr, append-nil, arith, take-append-drop, length-take, drop-cons}
+use Rattle.std.proofs.Common.{◌≡◌, ℕ, suc, ◌+◌, ◌<◌, true, false, cond, ltb, List, [], ◌∷◌, ◌++◌, length, get_or, take, drop, sym, ap, ◌∙◌, append-nil, arith, take-append-drop, length-take, drop-cons}
 use lib.ListN.{length-map}
 use Rattle.std.proofs.lemmas.List.{take_more}
-use Rattle.std.proofs.lemmas.Bool.{cond-true, cond-false, eq-eqb, ne_eqb}
+use Rattle.std.proofs.lemmas.Bool.{cond-true, cond-false}
 use Rattle.gf.proofs.Fields.{byte_field}
 use Rattle.gf_bytes.specs.declared.vector.Vector.{Vector}
 use Rattle.linear.specs.Vectors.{at, units, mix}
 use Rattle.linear.proofs.Lists.{get_d_map}
 use Rattle.network.specs.Network.{Link, Network, link_at, Sound}
 use Rattle.network_cuts.specs.Scheme.{hand}
-use Rattle.coding_theory.specs.Paths.{Each, none, and, Aim}
-use Rattle.coding_theory.specs.Coding.{place, Carrier, message, link, same, on_carrier, at_hand, trial, Receiver, current_at, Want, wants, Coded}
+use Rattle.std.specs.List.{All}
+use Rattle.std.proofs.lemmas.List.Elements.{All-weaker, All-take}
+use Rattle.coding_theory.specs.Paths.{Aim}
+use Rattle.coding_theory.specs.Coding.{place, Carrier, message, link, on_carrier, at_hand, trial, Receiver, current_at, Want, wants, Coded}
 use Rattle.coding_theory.specs.Promise.{Ends}
-use Rattle.coding_theory.proofs.Each.{each_same}
 use Rattle.coding_theory.proofs.Choose.{Wanted}
 use Rattle.coding_theory.proofs.Pass.{Kept, ends_on, trial-vector, can-be}
-use Rattle.coding_theory.proofs.Loop.{Fine, fine-at, far_from, want, wants-each, wants-few}
-use Rattle.coding_steps.specs.Carriers.{carrier_of}
-use Rattle.coding_steps.specs.Products.{trial_of}
-use Rattle.coding.specs.State.{Served, up_to}
+use Rattle.coding_theory.proofs.Loop.{On, Fine, fine-at, far_from, want, wants-each, wants-few}
+use Rattle.coding_steps.specs.Carriers.{Known}
+use Rattle.coding.specs.Served.{Served}
+use Rattle.coding.specs.State.{up_to}
 use Rattle.coding.proofs.Choosing.{wants-push, Chosen}
-
--- EACH ELEMENT
-
-pub each_at : {A : Type 0} (P : A → Type 0) (xs : List A) → Each P xs → (i : ℕ) (d : A) → i < length xs → P (get_or xs i d)
-each_at P [] none i d l = absurd (omega arith)
-each_at P (x ∷ xs) (and p ps) zero d l = p
-each_at P (x ∷ xs) (and p ps) (suc i) d l = each_at P xs ps i d (omega arith)
-
-each_take : {A : Type 0} (P : A → Type 0) (i : ℕ) (xs : List A) → Each P xs → Each P (take i xs)
-each_take P zero xs ps = none
-each_take P (suc i) [] none = none
-each_take P (suc i) (x ∷ xs) (and p ps) = and p (each_take P i xs ps)
-
--- NAMES
-
-trial-same : (node x name : ℕ) → same (carrier_of node x) (carrier_of node name) ≡ eqb x name
-trial-same node x name = elim (eqb node 0) as (λ b. same (cond b (message x) (link x)) (cond b (message name) (link name)) ≡ eqb x name) [ true ↦ refl | false ↦ refl ]
-
--- the trial set by names
-pub trial-is : (node name : ℕ) (ns : List ℕ) → trial (carrier_of node name) (map (carrier_of node) ns) ≡ trial_of name ns
-trial-is node name [] = refl
-trial-is node name (n ∷ ns) = ap₂ (λ b q. cond b 1 0 ∷ q) (trial-same node n name) (trial-is node name ns)
 
 -- LINK e
 
@@ -88,12 +67,12 @@ module _ (z : Network) (g : Sound z) (h : ℕ) (as' : List Aim) (s : Served z h 
   abbrev pub wanting : ℕ → List Want
   wanting i = wants h (length before) names (take i state.receivers)
 
-  pub all_wanted : (i : ℕ) → Each (Wanted byte_field h hands) (wanting i)
+  pub all_wanted : (i : ℕ) → All (Wanted byte_field h hands) (wanting i)
   all_wanted i =
       wants-each h (length before) names (Wanted byte_field h hands) (take i state.receivers)
-      (each_same (Kept byte_field z.links h (length before) state.vectors) _ (take i state.receivers)
+      (All-weaker (Kept byte_field z.links h (length before) state.vectors) (λ r. On h (length before) names r → Wanted byte_field h hands (want h (length before) names r))
       (λ q k t. can-be byte_field h z.links before l (drop (suc e) z.links) whole state.vectors fine.vectors q k t (far_from z g before l (drop (suc e) z.links) whole) fine.small)
-      (each_take (Kept byte_field z.links h (length before) state.vectors) i state.receivers fine.kept))
+      (take i state.receivers) (All-take (Kept byte_field z.links h (length before) state.vectors) i state.receivers fine.kept))
 
   module _ (i : ℕ) (li : i < length as') (r₀ : Receiver) where
     abbrev pub r : Receiver
@@ -106,7 +85,7 @@ module _ (z : Network) (g : Sound z) (h : ℕ) (as' : List Aim) (s : Served z h 
     lr = omega (arith, all)
 
     kept : Kept byte_field z.links h (length before) state.vectors r
-    kept = each_at (Kept byte_field z.links h (length before) state.vectors) state.receivers fine.kept i r₀ lr
+    kept = fine.kept i r₀ lr
 
     pub aim-is : (a : Aim) → r.aim ≡ get_or as' i a
     aim-is a = sym (get_d_map (λ r. r.aim) state.receivers i r₀ a lr) ∙ ap (λ q. get_or q i a) fine.aims
@@ -127,19 +106,13 @@ module _ (z : Network) (g : Sound z) (h : ℕ) (as' : List Aim) (s : Served z h 
       far : (k : ℕ) → k < length before → (link_at before k).to ≡ 0 → ⊥
       far = far_from z g before l (drop (suc e) z.links) whole
 
-      -- by its name the packet is at hand
-      name-with : (n : ℕ) (c : Carrier) → Ends z.links h (length before) c l.from → (c ≡ message j) ⊎ (c ≡ link n)
-          → (c ≡ carrier_of l.from (cond (eqb l.from 0) j n)) × (cond (eqb l.from 0) j n < cond (eqb l.from 0) h e)
-      name-with n c x (inl q) =
-          let y : (j < h) × (l.from ≡ 0) = subst (λ c. Ends z.links h (length before) c l.from) q x in
-          rw (eq-eqb l.from 0 y.1) (q, y.0)
-      name-with n c x (inr q) =
-          let y : (n < length before) × ((link_at z.links n).to ≡ l.from) = subst (λ c. Ends z.links h (length before) c l.from) q x in
-          rw (ne_eqb l.from 0 (λ o. (g.apart n (omega (arith, y.0, so_far))).0 (y.1 ∙ o))) (q, omega (arith, y.0, so_far))
-
-      pub name-is : (n : ℕ) → (current_at r j ≡ message j) ⊎ (current_at r j ≡ link n)
-          → (current_at r j ≡ carrier_of l.from (cond (eqb l.from 0) j n)) × (cond (eqb l.from 0) j n < cond (eqb l.from 0) h e)
-      name-is n q = name-with n (current_at r j) ends q
+      -- what carries the packet is one of the message or a link so far
+      pub known : Known h e (current_at r j)
+      known = by (current_at r j) ends
+        where
+          by : (c : Carrier) → Ends z.links h (length before) c l.from → Known h e c
+          by (message i) x = x.0
+          by (link k) x = omega (arith, x.0, so_far)
 
       pub trial-gives : (x : ℕ) → x < h → at (mix byte_field (trial (current_at r j) names) hands) x ≡ at (on_carrier (units h) state.vectors (current_at r j)) x
       trial-gives = trial-vector byte_field h z.links before l (drop (suc e) z.links) whole state.vectors fine.vectors r kept t far fine.small

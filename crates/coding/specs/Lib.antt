@@ -1,4 +1,6 @@
-pub mod Passing
+pub mod Aims
+pub mod Served
 pub mod State
+pub mod Passing
 pub mod Decoding
 pub mod Meaning

@@ -4,13 +4,14 @@
 --   Means    so are the coefficients of all links, and all receivers
 -- Assumes nothing.
 use Rattle.std.specs.Prelude.{◌≡◌, ℕ, ◌<◌, List, map, length, vec_items, ◌≢◌, slice_index, slice_index_or}
-use Rattle.coding_theory.specs.Paths.{Each, Aim}
+use Rattle.std.specs.List.{All}
+use Rattle.coding_theory.specs.Paths.{Aim}
 use Rattle.coding_theory.specs.Coding.{link, Receiver, current_at, Coded, rows}
 use Rattle.wire.specs.declared.plan.Coded.{Coded as Answer}
 use Rattle.wire.specs.declared.plan.Decoder.{Decoder}
 
 abbrev pub Away : List Aim → Type 0
-Away as' = Each (λ a. a.node ≢ 0) as'
+Away as' = All (λ a. a.node ≢ 0) as'
 
 pub record Decodes (h : ℕ) (d : Decoder) (r : Receiver) : Type 0 where
   pub many : length (vec_items d.links) ≡ h

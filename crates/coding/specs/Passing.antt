@@ -1,40 +1,29 @@
--- The receivers when link e with vector v is passed. Defines, in this order:
---   aim_of, aims_of    the receivers with their paths, as the definition has them
---   place_of           on which path of receiver i the link lies
---   Moved              a receiver when the link takes its place on path j
---   Ready              receiver i can be served by v, if the link lies on one of its paths
---   PassedAll          what becomes of receiver i
+-- A receiver when link e with vector v is passed. Defines, in this order:
+--   rate_of, place_on  how many paths it has, and on which of them the link lies
+--   Ready              it can be served by v, if the link lies on one of its paths
+--   Passed             what becomes of it: it goes on to stand for what the definition makes of what it stood for
 -- Assumes nothing.
-use Rattle.std.specs.Prelude.{◌≡◌, ℕ, ◌<◌, ◌≤◌, List, map, get_or, vec_items, slice_index_or, slice_set}
+use Rattle.std.specs.Prelude.{◌≡◌, ℕ, ◌<◌, List, length, vec_items}
 use Rattle.gf.proofs.Fields.{byte_field}
+use Rattle.gf_bytes.specs.declared.vector.Vector.{Vector}
 use Rattle.linear.specs.Vectors.{row, dot}
-use Rattle.linear.specs.Dual.{renew}
-use Rattle.coding_theory.specs.Paths.{Aim}
-use Rattle.coding_theory.specs.Coding.{place}
-use Rattle.coding_steps.specs.Rows.{bytes_of, Counted, SameRows}
-use Rattle.coding.specs.declared.aim.Aim.{Aim as Target}
+use Rattle.coding_theory.specs.Coding.{place, Receiver, passed}
+use Rattle.coding_steps.specs.Rows.{bytes_of}
+use Rattle.coding.specs.Aims.{aim_of}
+use Rattle.coding.specs.State.{Stands}
 use Rattle.coding.specs.declared.receiver.Receiver.{Receiver as Pending}
 
-abbrev pub aim_of : Target → Aim
-aim_of a = record { node = a.node; paths = map vec_items (vec_items a.paths) }
+abbrev pub rate_of : Pending → ℕ
+rate_of p = length (vec_items p.rows)
 
-abbrev pub aims_of : List Target → List Aim
-aims_of as' = map aim_of as'
+abbrev pub place_on : ℕ → Pending → ℕ
+place_on e p = place e (aim_of p.aim.now).paths
 
-abbrev pub place_of : ℕ → List Target → ℕ → Target → ℕ
-place_of e as' i a = place e (aim_of (slice_index_or as' i a)).paths
+pub record Ready (e : ℕ) (v : Vector) (p : Pending) : Type 0 where
+  pub count : v.count ≡ rate_of p
+  pub served : place_on e p < rate_of p → 0 < dot byte_field (rate_of p) (row (bytes_of (vec_items p.rows)) (place_on e p)) v.bytes
 
-pub record Moved (h j e : ℕ) (v : List ℕ) (p p' : Pending) : Type 0 where
-  pub links : p'.links ≡ slice_set p.links j e
-  pub counted : Counted h p'.rows
-  pub rows : SameRows h (bytes_of p'.rows) (renew byte_field h j v (bytes_of p.rows))
-
-abbrev pub Ready : ℕ → ℕ → List ℕ → List Target → List Pending → ℕ → Type 0
-Ready h e v as' ps i =
-    (a : Target) (p : Pending) → place_of e as' i a < h
-    → Counted h (get_or ps i p).rows × (0 < dot byte_field h (row (bytes_of (get_or ps i p).rows) (place_of e as' i a)) v)
-
--- ps before, and ps' after
-pub record PassedAll (h e : ℕ) (v : List ℕ) (as' : List Target) (ps ps' : List Pending) (i : ℕ) : Type 0 where
-  pub off : (a : Target) (p : Pending) → h ≤ place_of e as' i a → slice_index_or ps' i p ≡ slice_index_or ps i p
-  pub on : (a : Target) (p : Pending) → place_of e as' i a < h → Moved h (place_of e as' i a) e v (slice_index_or ps i p) (slice_index_or ps' i p)
+-- p before, and p' after
+pub record Passed (e : ℕ) (v : List ℕ) (p p' : Pending) : Type 0 where
+  pub aim : p'.aim.now ≡ p.aim.now
+  pub stands : (r : Receiver) → Stands (rate_of p) p r → Stands (rate_of p) p' (passed byte_field (rate_of p) e v r)

@@ -1,42 +1,32 @@
 -- The code's state between two links, and what it stands for. Defines, in this order:
---   Served            what is given: a rate, not too many receivers, and paths to each
 --   up_to             the definition's coefficients, vectors and receivers after the first e links
 --   Stands            a receiver of the code stands for one of the definition
---   Begun             it stands for one before the first link
 --   State             vectors and receivers of the code stand for those of the definition after e links
 --   chosen_at         the definition's coefficients of link e
 --   vector_at         the definition's vector of link e
 --   Carries           a vector of the code is that one
 -- Assumes nothing.
-use Rattle.std.specs.Prelude.{◌≡◌, ℕ, ◌<◌, ◌≤◌, ◌⊎◌, List, [], map, length, take, slice_index, slice_index_or}
+use Rattle.std.specs.Prelude.{◌≡◌, ℕ, ◌<◌, List, [], map, length, take, vec_items, slice_index_or}
 use Rattle.gf.proofs.Fields.{byte_field}
 use Rattle.gf_bytes.specs.declared.vector.Vector.{Vector}
 use Rattle.linear.specs.Vectors.{at, row, units, mixed}
 use Rattle.network.specs.Network.{Network, link_at}
 use Rattle.network_cuts.specs.Scheme.{hand}
-use Rattle.coding_theory.specs.Paths.{Each, Aim, Given}
-use Rattle.coding_theory.specs.Coding.{message, link, Receiver, current_at, start, Coded, chosen, along}
-use Rattle.coding_steps.specs.Rows.{bytes_of, Counted, AllCounted, SameRows}
+use Rattle.coding_theory.specs.Paths.{Aim}
+use Rattle.coding_theory.specs.Coding.{Receiver, start, Coded, chosen, along}
+use Rattle.coding_steps.specs.Rows.{bytes_of, AllCounted, SameRows}
+use Rattle.coding_steps.specs.Carriers.{carrier}
+use Rattle.coding.specs.Aims.{aim_of}
 use Rattle.coding.specs.declared.receiver.Receiver.{Receiver as Pending}
-
-pub record Served (z : Network) (h : ℕ) (as' : List Aim) : Type 0 where
-  pub rate : h ≤ 32
-  pub few : length as' ≤ 255
-  pub given : Each (Given z.links h) as'
 
 abbrev pub up_to : Network → ℕ → List Aim → ℕ → Coded
 up_to z h as' e = along byte_field h [] (take e z.links) (record { coefficients = []; vectors = []; receivers = map (start h) as' })
 
 pub record Stands (h : ℕ) (p : Pending) (r : Receiver) : Type 0 where
-  pub long : h ≤ length p.links
-  pub counted : Counted h p.rows
-  pub rows : SameRows h (bytes_of p.rows) r.dual
-  -- path j's packet is still packet j of the message, or the packet of its last link that is passed
-  pub links : (j : ℕ) → j < h → (current_at r j ≡ message j) ⊎ (current_at r j ≡ link (slice_index p.links j))
-
--- before the first link
-abbrev pub Begun : ℕ → Pending → Type 0
-Begun h p = (a : Aim) → Stands h p (start h a)
+  pub aim : aim_of p.aim.now ≡ r.aim
+  pub many : length (vec_items p.rows) ≡ h
+  pub current : map carrier (vec_items p.current) ≡ r.current
+  pub rows : SameRows h (bytes_of (vec_items p.rows)) r.dual
 
 pub record State (z : Network) (h : ℕ) (as' : List Aim) (e : ℕ) (vectors : List Vector) (pending : List Pending) : Type 0 where
   pub many : length vectors ≡ e

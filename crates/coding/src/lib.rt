@@ -2,13 +2,13 @@
 #![tactic(auto)]
 
 mod aim;
-mod choose;
 mod coder;
-mod decoders;
 mod pass;
 mod receiver;
-mod start;
+mod transposed;
+mod unit_rows;
+mod whole;
 
 pub use aim::Aim;
-pub use coder::code;
+pub use whole::code;
 pub use wire::{Coded, Decoder};

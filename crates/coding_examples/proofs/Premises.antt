@@ -4,7 +4,9 @@ use Rattle.std.proofs.Common.{◌≡◌, ℕ, zero, suc, ◌<◌, ◌≤◌, Boo
 use Rattle.std.proofs.lemmas.Bool.{and_parts, or_cases, eqb-true, eqb-false, both_ways, not-true, ltb-true}
 use Rattle.linear.specs.Vectors.{row}
 use Rattle.network.specs.Network.{Link, Network, link_at, Within, Apart, InOrder, Sound}
-use Rattle.coding_theory.specs.Paths.{Each, none, and, is_on, IsPath, Aim, Given}
+use Rattle.std.specs.List.{All}
+use Rattle.std.proofs.lemmas.List.Elements.{All-nil, All-cons}
+use Rattle.coding_theory.specs.Paths.{is_on, IsPath, Aim, Given}
 
 -- A SOUND NETWORK
 
@@ -145,14 +147,14 @@ module _ (ls : List Link) where
   paths-of p (w ∷ ws) t zero lj = path-of 0 p w (and_parts (leads 0 p w) (all_lead p ws) t).0
   paths-of p (w ∷ ws) t (suc j) lj = paths-of p ws (and_parts (leads 0 p w) (all_lead p ws) t).1 j (omega arith)
 
-  pub given-of : (h : ℕ) (as' : List Aim) → served h as' ≡ true → Each (Given ls h) as'
+  pub given-of : (h : ℕ) (as' : List Aim) → served h as' ≡ true → All (Given ls h) as'
   unfolding served
-  given-of h [] t = none
+  given-of h [] t = All-nil (Given ls h)
   given-of h (a ∷ as') t =
       let q = and_parts (eqb (length a.paths) h && (all_lead a.node a.paths && are_apart a.paths)) (served h as') t in
       let u = and_parts (eqb (length a.paths) h) (all_lead a.node a.paths && are_apart a.paths) q.0 in
       let v = and_parts (all_lead a.node a.paths) (are_apart a.paths) u.1 in
       let many : length a.paths ≡ h = eqb-true _ _ u.0 in
-      and
+      All-cons (Given ls h) a as'
       (record { many = many; lead = λ j lj. paths-of a.node a.paths v.0 j (omega arith); apart = λ i j e li lj. share-no-link a.paths v.1 i j e })
       (given-of h as' q.1)

@@ -6,7 +6,9 @@ use Rattle.linear.specs.Lowest.{lowest}
 use Rattle.linear.specs.Dual.{renew}
 use Rattle.linear.specs.Choice.{serves_all}
 use Rattle.network_cuts.specs.Scheme.{into}
-use Rattle.coding_theory.specs.Paths.{Each, none, and, is_on}
+use Rattle.std.specs.List.{All}
+use Rattle.std.proofs.lemmas.List.Elements.{All-from_recursion}
+use Rattle.coding_theory.specs.Paths.{is_on}
 use Rattle.coding_theory.specs.Coding.{incoming, place, wants, next, choose, passed, chosen, one_more, along}
 use Rattle.coding_examples.specs.Table.{Worked, butterfly, threefold, dense, wide, worked}
 use Rattle.coding_examples.proofs.Premises.{none_into, fits, well, sound-of, shares_none, shares_none_of, are_apart, leads, all_lead, served, given-of}
@@ -63,5 +65,5 @@ wide-works =
       rows = refl;
     }
 
-pub all-work : Each Worked worked
-all-work = and butterfly-works (and threefold-works (and dense-works (and wide-works none)))
+pub all-work : All Worked worked
+all-work = All-from_recursion Worked worked (butterfly-works, (threefold-works, (dense-works, (wide-works, tt))))

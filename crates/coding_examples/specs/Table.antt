@@ -10,7 +10,8 @@
 use Rattle.std.specs.Prelude.{◌≡◌, ℕ, ◌<◌, List, [], ◌∷◌, map, length}
 use Rattle.gf.proofs.Fields.{byte_field}
 use Rattle.network.specs.Network.{Link, Network, Sound}
-use Rattle.coding_theory.specs.Paths.{Each, Aim, Given}
+use Rattle.std.specs.List.{All}
+use Rattle.coding_theory.specs.Paths.{Aim, Given}
 use Rattle.coding_theory.specs.Coding.{link, code, rows}
 
 pub record Example : Type 0 where
@@ -25,7 +26,7 @@ pub record Example : Type 0 where
 pub record Worked (x : Example) : Type 0 where
   pub sound : Sound x.network
   pub few : length x.aims < byte_field.size
-  pub given : Each (Given x.network.links x.rate) x.aims
+  pub given : All (Given x.network.links x.rate) x.aims
   pub coefficients : (code byte_field x.network x.rate x.aims).coefficients ≡ x.coefficients
   pub vectors : (code byte_field x.network x.rate x.aims).vectors ≡ x.vectors
   pub current : map (λ r. r.current) (code byte_field x.network x.rate x.aims).receivers ≡ map (map link) x.current

@@ -1,13 +1,21 @@
 -- What is at hand, one packet after the other: a table and the links into a node grow at their end as the code's lists do.
 use Rattle.std.proofs.Common.{◌≡◌, ℕ, zero, suc, ◌+◌, ◌<◌, true, false, cond, eqb, List, [], ◌∷◌, ◌++◌, map, length, take, set, replicate, sym, refl, ap, ◌∙◌, ap₂, inl, inr, append-nil, add-zero, add-one, arith, length-take, get_or-set_other, get_or-set_same}
 use lib.ListN.{get_or-replicate, length-replicate}
+use Rattle.std.specs.List.{range_with_len}
 use Rattle.std.proofs.lemmas.List.{map-append, take_more}
 use Rattle.std.proofs.lemmas.Bool.{cond-true, cond-false, cases_eq, eq-eqb, ne_eqb}
 use Rattle.linear.specs.Vectors.{at, table, delta}
 use Rattle.linear.proofs.Sums.{delta-same, delta-other}
 use Rattle.network.specs.Network.{Link, link_at}
-use Rattle.coding_theory.specs.Coding.{message, link, incoming, at_hand}
-use Rattle.coding_steps.specs.Carriers.{carrier_of}
+use Rattle.coding_theory.specs.Coding.{message, link, incoming}
+use Rattle.coding_steps.specs.declared.carrier.Carrier.{Carrier as Named}
+use Rattle.coding_steps.specs.declared.carrier.Carrier.TheVariants.{Message, Link as Over}
+use Rattle.coding_steps.specs.Carriers.{carrier}
+
+pub table_same : {A : Type 0} (n : ℕ) (f g : ℕ → A) → ((i : ℕ) → i < n → f i ≡ g i) → table n f ≡ table n g
+unfolding table
+table_same zero f g e = refl
+table_same (suc n) f g e = ap₂ (λ x xs. x ∷ xs) (e 0 (omega arith)) (table_same n (λ i. f (suc i)) (λ i. g (suc i)) (λ i l. e (suc i) (omega arith)))
 
 table-suc : {A : Type 0} (n : ℕ) (f : ℕ → A) → table (suc n) f ≡ table n f ++ f n ∷ []
 unfolding table
@@ -29,33 +37,27 @@ incoming-push p b (x ∷ ls) l =
       | false ↦ ih
     ]
 
-module _ (node : ℕ) (ls : List Link) (k : ℕ) (lk : k < length ls) (ns : List ℕ) (so_far : map link ns ≡ incoming node 0 (take k ls)) where
+module _ (node : ℕ) (ls : List Link) (k : ℕ) (lk : k < length ls) (ns : List Named) (so_far : map carrier ns ≡ incoming node 0 (take k ls)) where
   more : incoming node 0 (take (k + 1) ls) ≡ incoming node 0 (take k ls) ++ cond (eqb node (link_at ls k).to) (link k ∷ []) []
   more =
       let e : 0 + length (take k ls) ≡ k = omega (arith, length-take k ls) in
       ap (incoming node 0) (take_more ls k (record { from = 0; to = 0 }) lk) ∙ incoming-push node 0 (take k ls) (link_at ls k)
       ∙ ap (λ n. incoming node 0 (take k ls) ++ cond (eqb node (link_at ls k).to) (link n ∷ []) []) e
 
-  pub into-here : (link_at ls k).to ≡ node → map link (ns ++ k ∷ []) ≡ incoming node 0 (take (k + 1) ls)
-  into-here e = map-append link ns (k ∷ []) ∙ ap (λ q. q ++ link k ∷ []) so_far ∙ sym (more ∙ ap (λ q. incoming node 0 (take k ls) ++ q) (cond-true _ _ _ (eq-eqb _ _ (sym e))))
+  pub into-here : (link_at ls k).to ≡ node → map carrier (ns ++ Over k ∷ []) ≡ incoming node 0 (take (k + 1) ls)
+  into-here e = map-append carrier ns (Over k ∷ []) ∙ ap (λ q. q ++ link k ∷ []) so_far ∙ sym (more ∙ ap (λ q. incoming node 0 (take k ls) ++ q) (cond-true _ _ _ (eq-eqb _ _ (sym e))))
 
-  pub into-there : ((link_at ls k).to ≡ node → ⊥) → map link ns ≡ incoming node 0 (take (k + 1) ls)
+  pub into-there : ((link_at ls k).to ≡ node → ⊥) → map carrier ns ≡ incoming node 0 (take (k + 1) ls)
   into-there ne = so_far ∙ sym (more ∙ ap (λ q. incoming node 0 (take k ls) ++ q) (cond-false _ _ _ (ne_eqb _ _ (λ e. ne (sym e)))) ∙ append-nil (incoming node 0 (take k ls)))
 
-map-table : {A B : Type 0} (f : A → B) (n : ℕ) (g : ℕ → A) → map f (table n g) ≡ table n (λ i. f (g i))
+-- the packets of the message
+pub messages-are : (n a : ℕ) → map carrier (map Message (range_with_len a n)) ≡ table n (λ i. message (a + i))
 unfolding table
-map-table f zero g = refl
-map-table f (suc n) g = ap (λ q. f (g 0) ∷ q) (map-table f n (λ i. g (suc i)))
-
-pub map_same : {A B : Type 0} (f g : A → B) → ((x : A) → f x ≡ g x) → (xs : List A) → map f xs ≡ map g xs
-map_same f g e [] = refl
-map_same f g e (x ∷ xs) = ap₂ (λ a b. a ∷ b) (e x) (map_same f g e xs)
-
-pub at_source : (h node : ℕ) (ls : List Link) (ns : List ℕ) → node ≡ 0 → ns ≡ table h (λ i. i) → map (carrier_of node) ns ≡ at_hand h node ls
-at_source h node ls ns z e = rw (z, e) (map-table message h (λ i. i))
-
-pub elsewhere : (h node : ℕ) (ls : List Link) (ns : List ℕ) → (node ≡ 0 → ⊥) → map link ns ≡ incoming node 0 ls → map (carrier_of node) ns ≡ at_hand h node ls
-elsewhere h node ls ns ne e = map_same (carrier_of node) link (λ n. cond-false _ _ _ (ne_eqb node 0 ne)) ns ∙ e ∙ sym (cond-false _ _ _ (ne_eqb node 0 ne))
+messages-are zero a = refl
+messages-are (suc n) a = ap₂ (λ i q. message i ∷ q) (sym (add-zero a)) (messages-are n (a + 1) ∙ table_same n _ (λ i. message (a + suc i)) (λ i l. ap message (add-shift a i)))
+  where
+    add-shift : (a i : ℕ) → (a + 1) + i ≡ a + suc i
+    add-shift a i = omega arith
 
 -- the places of a unit vector
 pub unit-at : (n i x : ℕ) → i < n → x < n → at (set (replicate n 0) i 1) x ≡ delta i x

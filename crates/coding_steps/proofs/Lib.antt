@@ -1,5 +1,5 @@
 pub mod Renewal
-pub mod Products
 pub mod Extension
 pub mod Places
 pub mod AtHand
+pub mod First

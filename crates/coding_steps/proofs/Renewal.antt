@@ -14,7 +14,7 @@ use Rattle.linear.proofs.Sums.{cancel, by-same}
 use Rattle.linear.proofs.Lists.{get_d-table, get_d_map, at-plus, at-scale}
 use Rattle.linear.proofs.Lowest.{lowest-least}
 use Rattle.linear.proofs.Dual.{inverse-undoes}
-use Rattle.coding_steps.specs.Rows.{bytes_of, Counted, SameRows}
+use Rattle.coding_steps.specs.Rows.{bytes_of, AllCounted, SameRows}
 
 pub bytes-at : (vs : List Vector) (i : ℕ) (d : Vector) → i < length vs → row (bytes_of vs) i ≡ (get_or vs i d).bytes
 bytes-at vs i d l = get_d_map (λ v. v.bytes) vs i d [] l
@@ -68,15 +68,16 @@ renew-same h j v v' d d' lj ev ed i k li lk =
     product : (n : ℕ) → n < h → dot byte_field h (row d n) v ≡ dot byte_field h (row d' n) v'
     product n ln = by-same byte_field h (at (row d n)) (at (row d' n)) (at v) (at v') (λ m lm. ed n m ln lm) ev
 
--- the rows before row i are done
-pub record Front (h : ℕ) (target : List (List ℕ)) (i : ℕ) (out : List Vector) : Type 0 where
-  pub long : length out ≡ 32
+-- the rows before row i are done, and the others are as they were
+pub record Front (h : ℕ) (target : List (List ℕ)) (before : List Vector) (i : ℕ) (out : List Vector) : Type 0 where
+  pub long : length out ≡ length before
   pub counts : (n : ℕ) → n < i → get_or (map (λ v. v.count) out) n 0 ≡ h
   pub same : (n k : ℕ) → n < i → k < h → at (row (bytes_of out) n) k ≡ at (row target n) k
+  pub rest : (n : ℕ) (d : Vector) → i ≤ n → get_or out n d ≡ get_or before n d
 
-pub front-more : (h : ℕ) (target : List (List ℕ)) (i : ℕ) (out : List Vector) (x : Vector) → Front h target i out → i < 32 → x.count ≡ h
-    → ((k : ℕ) → k < h → at x.bytes k ≡ at (row target i) k) → Front h target (i + 1) (set out i x)
-front-more h target i out x f li ex same = record {
+pub front-more : (h : ℕ) (target : List (List ℕ)) (before : List Vector) (i : ℕ) (out : List Vector) (x : Vector) → Front h target before i out → i < length before → x.count ≡ h
+    → ((k : ℕ) → k < h → at x.bytes k ≡ at (row target i) k) → Front h target before (i + 1) (set out i x)
+front-more h target before i out x f li ex same = record {
   long = length-set out i x ∙ f.long;
   counts = λ n ln.
       elim (cases_eq n i) [
@@ -91,28 +92,42 @@ front-more h target i out x f li ex same = record {
             ∙ same k lk ∙ ap (λ m. at (row target m) k) (sym e)
         | inr ne ↦ ap (λ q. at (row q n) k) (map-set (λ v. v.bytes) out i x) ∙ ap (λ q. at q k) (get_or-set_other (bytes_of out) i n x.bytes [] ne) ∙ f.same n k (omega arith) lk
       ];
+  rest = λ n d ln. get_or-set_other out i n x d (λ q. omega arith) ∙ f.rest n d (omega arith);
 }
 
-module _ (h j : ℕ) (v : Vector) (rows : List Vector) where
-  module _ (counted : Counted h rows) (long : length rows ≡ 32) (lh : h ≤ 32) (lj : j < h) (cv : v.count ≡ h) where
-    pub dot-is : (i : ℕ) (d : Vector) → i < h → dot_of (min (get_or rows i d).count v.count) (get_or rows i d).bytes v.bytes ≡ dot byte_field h (row (bytes_of rows) i) v.bytes
-    dot-is i d li =
-        product_is h (get_or rows i d) v (sym (count_at rows i d (omega arith)) ∙ counted i li) cv
-        ∙ ap (λ q. dot byte_field h q v.bytes) (sym (bytes-at rows i d (omega arith)))
+module _ (j : ℕ) (v : Vector) (rows : List Vector) where
+  abbrev h : ℕ
+  h = length rows
 
-    module _ (by : ℕ) (new : Vector) (d : Vector)
+  module _ (counted : AllCounted h rows) (lj : j < h) (cv : v.count ≡ h) where
+    pub row-counted : (i : ℕ) (x : Vector) → i < h → x ≡ get_or rows i x → x.count ≡ h
+    row-counted i x li is = ap (λ y. y.count) is ∙ sym (count_at rows i x li) ∙ counted i li
+
+    row-bytes : (i : ℕ) (x : Vector) → i < h → x ≡ get_or rows i x → row (bytes_of rows) i ≡ x.bytes
+    row-bytes i x li is = bytes-at rows i x li ∙ ap (λ y. y.bytes) (sym is)
+
+    pub dot-is : (i : ℕ) (x : Vector) → i < h → x ≡ get_or rows i x → dot_of (min x.count v.count) x.bytes v.bytes ≡ dot byte_field h (row (bytes_of rows) i) v.bytes
+    dot-is i x li is =
+        product_is h x v (row-counted i x li is) cv
+        ∙ ap (λ q. dot byte_field h q v.bytes) (sym (row-bytes i x li is))
+
+    module _ (by : ℕ) (new : Vector) (y : Vector) (is-y : y ≡ get_or rows j y)
         (is-by : by ≡ inverse byte_field (dot byte_field h (row (bytes_of rows) j) v.bytes))
-        (is-new : MultipleOf by (get_or rows j d).bytes new.bytes) where
+        (is-new : MultipleOf by y.bytes new.bytes) where
+      -- a vector has 32 places, of which the coefficients are some
+      within : h ≤ 32
+      within = omega (arith, v.within)
+
       new-at : (k : ℕ) → k < h → at new.bytes k ≡ times (inverse byte_field (dot byte_field h (row (bytes_of rows) j) v.bytes)) (at (row (bytes_of rows) j) k)
-      new-at k lk = is-new k (omega arith) ∙ ap₂ (λ b q. times b (at q k)) is-by (sym (bytes-at rows j d (omega arith)))
+      new-at k lk = is-new k (omega (arith, within)) ∙ ap₂ (λ b q. times b (at q k)) is-by (sym (row-bytes j y lj is-y))
 
       pub here : (i k : ℕ) → i < h → i ≡ j → k < h → at new.bytes k ≡ at (row (renew byte_field h j v.bytes (bytes_of rows)) i) k
       here i k li e lk = new-at k lk ∙ sym (renew-here h j v.bytes (bytes_of rows) i k li e)
 
-      pub there : (i : ℕ) (t : ℕ) (scaled x : Vector) (d' : Vector) → i < h → (i ≡ j → ⊥) → t ≡ dot byte_field h (row (bytes_of rows) i) v.bytes
-          → MultipleOf t new.bytes scaled.bytes → SumOf (get_or rows i d').bytes scaled.bytes x.bytes
-          → (k : ℕ) → k < h → at x.bytes k ≡ at (row (renew byte_field h j v.bytes (bytes_of rows)) i) k
-      there i t scaled x d' li ne et es ex k lk =
-          ex k (omega arith)
-          ∙ ap₂ bit_xor (ap (λ q. at q k) (sym (bytes-at rows i d' (omega arith)))) (es k (omega arith) ∙ ap₂ times et (new-at k lk))
+      pub there : (i : ℕ) (t : ℕ) (scaled x x' : Vector) → i < h → (i ≡ j → ⊥) → x ≡ get_or rows i x → t ≡ dot_of (min x.count v.count) x.bytes v.bytes
+          → MultipleOf t new.bytes scaled.bytes → SumOf x.bytes scaled.bytes x'.bytes
+          → (k : ℕ) → k < h → at x'.bytes k ≡ at (row (renew byte_field h j v.bytes (bytes_of rows)) i) k
+      there i t scaled x x' li ne is et es ex k lk =
+          ex k (omega (arith, within))
+          ∙ ap₂ bit_xor (ap (λ q. at q k) (sym (row-bytes i x li is))) (es k (omega (arith, within)) ∙ ap₂ times (et ∙ dot-is i x li is) (new-at k lk))
           ∙ sym (renew-there h j v.bytes (bytes_of rows) i k li ne)

@@ -1,7 +1,6 @@
 -- Dual rows of vectors of bytes. Defines, in this order:
 --   bytes_of vs       the bytes of each vector
---   Counted h vs      each of the first h vectors has h coefficients
---   AllCounted h vs   all of them have
+--   AllCounted h vs   each of the vectors has h coefficients
 --   SameRows h d e    the first h places of the first h rows are the same
 -- Assumes nothing.
 use Rattle.std.specs.Prelude.{◌≡◌, ℕ, ◌<◌, List, map, length, slice_index}
@@ -10,9 +9,6 @@ use Rattle.linear.specs.Vectors.{at, row}
 
 abbrev pub bytes_of : List Vector → List (List ℕ)
 bytes_of vs = map (λ v. v.bytes) vs
-
-abbrev pub Counted : ℕ → List Vector → Type 0
-Counted h vs = (i : ℕ) → i < h → slice_index (map (λ v. v.count) vs) i ≡ h
 
 abbrev pub AllCounted : ℕ → List Vector → Type 0
 AllCounted h vs = (i : ℕ) → i < length vs → slice_index (map (λ v. v.count) vs) i ≡ h

@@ -1,33 +1,27 @@
-// Dual rows, and the step that puts a vector in another's place.
-ghost use Rattle.std.specs.Prelude.{◌≡◌, ◌<◌, ◌≤◌};
+// The step that puts a vector in another's place.
+ghost use Rattle.std.specs.Prelude.{◌≡◌, ◌<◌, length};
 ghost use Rattle.gf.proofs.Fields.{byte_field};
 ghost use Rattle.linear.specs.Vectors.{row, dot};
 ghost use Rattle.linear.specs.Dual.{renew};
-ghost use Rattle.coding_steps.specs.Rows.{bytes_of, Counted, SameRows};
+ghost use Rattle.coding_steps.specs.Rows.{bytes_of, AllCounted, SameRows};
 
 use gf_bytes::{Vector, inverse};
 
-// The first `h` are the dual rows of a receiver, of `h` coefficients each.
-pub type Rows = [Vector; 32];
-
-// The dual rows when v takes the place of vector j.
-pub fn renewed(rows: Rows, h: usize, j: usize, v: Vector) -> Rows
-    requires counted { (Counted h rows) × (v.count ≡ h) }
-    requires place { (j < h) × (h ≤ 32) }
-    requires served { 0 < dot byte_field h (row (bytes_of rows) j) v.bytes }
-    ensures counted { Counted h result }
-    ensures renewed { SameRows h (bytes_of result) (renew byte_field h j v.bytes (bytes_of rows)) }
+// The dual rows when v takes the place of vector j: as many as they have coefficients.
+pub fn renew(rows: &mut [Vector], j: usize, v: Vector)
+    requires counted { (AllCounted (length rows.old) rows.old) × (v.count ≡ length rows.old) }
+    requires place { j < length rows.old }
+    requires served { 0 < dot byte_field (length rows.old) (row (bytes_of rows.old) j) v.bytes }
+    ensures counted { AllCounted (length rows.old) rows.new }
+    ensures renewed { SameRows (length rows.old) (bytes_of rows.new) (renew byte_field (length rows.old) j v.bytes (bytes_of rows.old)) }
 {
     let by = inverse(rows[j].dot(v));
     let new = rows[j].scaled(by);
-    let mut out = rows;
-    for i in 0..h {
-        if i == j {
-            out[i] = new;
+    for (i, row) in rows.iter_mut().enumerate() {
+        *row = if i == j {
+            new
         } else {
-            let row = rows[i].plus(new.scaled(rows[i].dot(v)));
-            out[i] = row;
-        }
+            row.plus(new.scaled(row.dot(v)))
+        };
     }
-    out
 }

@@ -1,16 +1,16 @@
 // The steps by which coefficients are chosen over bytes.
 #![tactic(auto)]
 
-mod carriers;
+mod carrier;
 mod dual;
 mod lowest;
 mod paths;
 mod product;
 mod serving;
 
-pub use carriers::{at_hand, vector_of};
-pub use dual::{Rows, renewed};
+pub use carrier::{Carrier, at_hand, messages};
+pub use dual::renew;
 pub use lowest::lowest_serving;
 pub use paths::place;
 pub use product::Product;
-pub use serving::serve;
+pub use serving::Choice;

@@ -10,15 +10,12 @@ use gf_bytes::mul;
 fn all_served(products: &[Product], t: u8) -> bool
     ensures { result ≡ all_served products.now t }
 {
-    for product in products {
-        if product.before ^ mul(t, product.added) == 0 {
-            return false;
-        }
-    }
-    true
+    products
+        .iter()
+        .all(|product| product.before ^ mul(t, product.added) != 0)
 }
 
-// The lowest t from 1 to 255 that serves all, where there is one.
+// The lowest t from 1 to 255 that serves all, where there is one: the loop is left at the first, by its label.
 pub fn lowest_serving(products: &[Product]) -> u8
     requires { lowest (all_served products.now) 255 1 < 256 }
     ensures { result ≡ lowest (all_served products.now) 255 1 }

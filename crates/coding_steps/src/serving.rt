@@ -1,15 +1,80 @@
-// The coefficients of a link, when one more receiver is to be served.
-ghost use Rattle.std.specs.Prelude.{◌≡◌, ◌<◌, map, length, IfOk, OnOk};
+// The choice of the coefficients of a link, when some of the receivers have had their turn.
+ghost use Rattle.std.specs.Prelude.{◌≡◌, ◌<◌, ◌≤◌, ◌∷◌, ◌++◌, [], map, length, replicate, IfOk, OnOk};
 ghost use Rattle.gf.proofs.Fields.{byte_field};
 ghost use Rattle.linear.specs.Vectors.{plus, scale, dot};
 ghost use Rattle.linear.specs.Lowest.{lowest};
+ghost use Rattle.coding_theory.specs.Coding.{trial};
+ghost use Rattle.coding_steps.specs.Carriers.{carrier};
 ghost use Rattle.coding_steps.specs.Rows.{bytes_of, AllCounted};
-ghost use Rattle.coding_steps.specs.Products.{product_of, all_served, trial_of, last_of, Extended};
+ghost use Rattle.coding_steps.specs.Products.{product_of, all_served, Extended};
 
+use crate::carrier::Carrier;
 use crate::lowest::lowest_serving;
 use crate::product::Product;
 use gf_bytes::Vector;
 use std::alloc::{AllocError, Global};
+
+#[derive(Drop)]
+pub struct Choice {
+    // the packets at hand
+    pub hands: Vec<Carrier>,
+    // one for each of them; apart from them, since they alone go into the plan
+    pub coefficients: Vec<u8>,
+    // the mix of what is at hand by the coefficients
+    pub vector: Vector,
+    // of each receiver that had its turn the row by which the vector is tested
+    pub rows: Vec<Vector>,
+    ghost level: { length coefficients.items ≡ length hands.items },
+    ghost counted: { AllCounted vector.count rows.items },
+}
+
+impl Choice {
+    // Before the first receiver all coefficients are 0.
+    pub fn new(heap: Global, h: usize, hands: Vec<Carrier>) -> Result<Choice, AllocError>
+        requires { h ≤ 32 }
+        ensures hands { IfOk result (λ c. c.hands ≡ hands) }
+        ensures coefficients { IfOk result (λ c. c.coefficients.items ≡ replicate (length hands.items) 0) }
+        ensures vector { IfOk result (λ c. (c.vector.count ≡ h) × (c.vector.bytes ≡ replicate 32 0)) }
+        ensures rows { IfOk result (λ c. c.rows.items ≡ []) }
+    {
+        let coefficients = vec![in heap; 0; hands.len()]?;
+        Ok(Choice {
+            hands,
+            coefficients,
+            vector: Vector::zero(h).unwrap(),
+            rows: Vec::new(heap),
+        })
+    }
+
+    // Serves one more receiver, and still those before it. Nothing changes if the vector serves it already; else t times
+    // the vector `added` of a packet at hand is added, with the lowest t that serves all.
+    pub fn serve(
+        &mut self,
+        heap: Global,
+        row: Vector,
+        packet: Carrier,
+        added: Vector,
+    ) -> Result<(), AllocError>
+        requires counted { (row.count ≡ self.old.vector.count) × (added.count ≡ self.old.vector.count) }
+        requires found { dot byte_field self.old.vector.count row.bytes self.old.vector.bytes ≡ 0
+            → lowest (all_served (map (product_of self.old.vector.count self.old.vector.bytes added.bytes) (bytes_of (self.old.rows.items ++ row ∷ [])))) 255 1 < 256 }
+        ensures hands { self.new.hands ≡ self.old.hands }
+        ensures rows { OnOk result (self.new.rows.items ≡ self.old.rows.items ++ row ∷ []) }
+        ensures served { OnOk result
+            (Extended (bytes_of (self.old.rows.items ++ row ∷ [])) row.bytes added.bytes (trial (carrier packet) (map carrier self.old.hands.items))
+            self.old.coefficients.items self.old.vector self.new.coefficients.items self.new.vector) }
+    {
+        self.rows.push(row)?;
+        if row.dot(self.vector) != 0 {
+            return Ok(());
+        }
+        let products = products(heap, &self.rows, self.vector, added)?;
+        let t = lowest_serving(&products);
+        add_at(&mut self.coefficients, &self.hands, packet, t);
+        self.vector = self.vector.plus(added.scaled(t));
+        Ok(())
+    }
+}
 
 // What each row makes of the vector so far, and of the one to be added.
 fn products(
@@ -21,52 +86,23 @@ fn products(
     requires counted { (AllCounted vector.count rows.now) × (added.count ≡ vector.count) }
     ensures { IfOk result (λ ps. ps.items ≡ map (product_of vector.count vector.bytes added.bytes) (bytes_of rows.now)) }
 {
-    let mut products = Vec::with_capacity(heap, rows.len())?;
-    for row in rows {
-        products.push(Product {
+    rows.iter()
+        .map(|row| Product {
             before: row.dot(vector),
             added: row.dot(added),
-        })?;
-    }
-    Ok(products)
+        })
+        .collect(heap)
 }
 
-// Adds t to the coefficients of the packet that is called `name`.
-fn add_at(coefficients: &mut [u8], names: &[u16], name: u16, t: u8)
-    requires { length coefficients.old ≡ length names.now }
-    ensures { coefficients.new ≡ plus coefficients.old (scale byte_field t (trial_of name names.now)) }
+// Adds t to the coefficient of a packet.
+fn add_at(coefficients: &mut [u8], hands: &[Carrier], packet: Carrier, t: u8)
+    requires { length coefficients.old ≡ length hands.now }
+    ensures { coefficients.new ≡ plus coefficients.old (scale byte_field t (trial (carrier packet) (map carrier hands.now))) }
 {
-    for k in 0..names.len() {
-        if names[k] == name {
+    // by place: what is written through `iter_mut().zip(..)` stays unknown to the proof
+    for (k, hand) in hands.iter().enumerate() {
+        if *hand == packet {
             coefficients[k] ^= t;
         }
     }
-}
-
-// Serves the receiver of the last row, and still those of the rows before it. Nothing changes if the vector serves it already;
-// else t times the vector `added`, which the packet `name` carries, is added, with the lowest t that serves all.
-pub fn serve(
-    heap: Global,
-    rows: &[Vector],
-    names: &[u16],
-    name: u16,
-    added: Vector,
-    coefficients: &mut [u8],
-    vector: &mut Vector,
-) -> Result<(), AllocError>
-    requires counted { (AllCounted vector.old.count rows.now) × (added.count ≡ vector.old.count) }
-    requires some { 0 < length rows.now }
-    requires level { length coefficients.old ≡ length names.now }
-    requires found { dot byte_field vector.old.count (last_of (bytes_of rows.now)) vector.old.bytes ≡ 0 → lowest (all_served (map (product_of vector.old.count vector.old.bytes added.bytes) (bytes_of rows.now))) 255 1 < 256 }
-    ensures { OnOk result (Extended (bytes_of rows.now) added.bytes (trial_of name names.now) coefficients.old vector.old coefficients.new vector.new) }
-{
-    let row = rows[rows.len() - 1];
-    if row.dot(*vector) != 0 {
-        return Ok(());
-    }
-    let products = products(heap, rows, *vector, added)?;
-    let t = lowest_serving(&products);
-    add_at(coefficients, names, name, t);
-    *vector = vector.plus(added.scaled(t));
-    Ok(())
 }

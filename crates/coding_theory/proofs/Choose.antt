@@ -10,7 +10,8 @@ use Rattle.linear.specs.Choice.{serves_all}
 use Rattle.linear.proofs.Dual.{of-serves}
 use Rattle.linear.proofs.Choice.{t-found}
 use Rattle.coding_theory.specs.Coding.{next, choose, Want}
-use Rattle.coding_theory.specs.Paths.{Each, none, and}
+use Rattle.std.specs.List.{All}
+use Rattle.std.proofs.lemmas.List.Elements.{All-nil, All-cons, All-head, All-tail}
 
 module _ (F : Field) where
   open F use {size, times, laws}
@@ -32,13 +33,14 @@ module _ (F : Field) where
         (λ e.
         (t-found F h hands done cs w.trial w.test t e (of-serves F h _ w.test (λ z. let n : ◌≡◌ {A = ℕ} 1 0 = sym u ∙ z in omega arith)) (omega arith)).holds)
 
-    pub choose-serves : (ws : List Want) (done : List (List ℕ)) (cs : List ℕ) → serves_all F h (mix F cs hands) done ≡ true → Each (Wanted h hands) ws
+    pub choose-serves : (ws : List Want) (done : List (List ℕ)) (cs : List ℕ) → serves_all F h (mix F cs hands) done ≡ true → All (Wanted h hands) ws
         → length done + length ws < size
         → (serves_all F h (mix F (choose F h hands done cs ws) hands) done ≡ true)
-        × Each (λ w. serves F h (mix F (choose F h hands done cs ws) hands) w.test ≡ true) ws
+        × All (λ w. serves F h (mix F (choose F h hands done cs ws) hands) w.test ≡ true) ws
     unfolding choose serves_all
-    choose-serves [] done cs t none room = (t, none)
-    choose-serves (w ∷ ws) done cs t (and u us) room =
-        let r = choose-serves ws (w.test ∷ done) (next F h hands done cs w) (next-serves done cs w t u (omega arith)) us (omega arith) in
+    choose-serves [] done cs t a room = (t, All-nil (λ w. serves F h (mix F cs hands) w.test ≡ true))
+    choose-serves (w ∷ ws) done cs t a room =
+        let u : Wanted h hands w = All-head (Wanted h hands) w ws a in
+        let r = choose-serves ws (w.test ∷ done) (next F h hands done cs w) (next-serves done cs w t u (omega arith)) (All-tail (Wanted h hands) w ws a) (omega arith) in
         let p = and_parts _ _ r.0 in
-        (p.1, and p.0 r.1)
+        (p.1, All-cons (λ x. serves F h (mix F (choose F h hands (w.test ∷ done) (next F h hands done cs w) ws) hands) x.test ≡ true) w ws p.0 r.1)

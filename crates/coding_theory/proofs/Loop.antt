@@ -11,8 +11,10 @@ use Rattle.linear.proofs.Lists.{at-mixed, mixed-small}
 use Rattle.network.specs.Network.{Link, Network, Sound, link_at}
 use Rattle.network_cuts.specs.Scheme.{hand}
 use Rattle.coding_theory.specs.Coding.{place, Carrier, at_hand, trial, Receiver, current_at, start, Want, wants, choose, passed, Coded, chosen, one_more, along}
-use Rattle.coding_theory.specs.Paths.{Each, none, and, Aim, Given}
-use Rattle.coding_theory.proofs.Each.{each-head, each_tail, each_map, each-one, each_same}
+use Rattle.std.specs.List.{All}
+use Rattle.std.proofs.lemmas.List.Elements.{All-nil, All-cons, All-head, All-tail, All-weaker}
+use Rattle.coding_theory.specs.Paths.{Aim, Given}
+use Rattle.coding_theory.proofs.Each.{each_map, each-one}
 use Rattle.coding_theory.proofs.Choose.{Wanted, choose-serves}
 use Rattle.coding_theory.proofs.Track.{Tracks, tracks-start, tracks-more}
 use Rattle.coding_theory.proofs.Pass.{Kept, kept-start, can-be, passes_kept}
@@ -45,23 +47,24 @@ module _ (h e : ℕ) (names : List Carrier) where
         | inr f ↦ omega (arith, ap length (wants-off r rs f), wants-few rs)
       ]
 
-  pub wants-each : (P : Want → Type 0) (rs : List Receiver) → Each (λ r. On r → P (want r)) rs → Each P (wants h e names rs)
+  pub wants-each : (P : Want → Type 0) (rs : List Receiver) → All (λ r. On r → P (want r)) rs → All P (wants h e names rs)
   unfolding wants
-  wants-each P [] none = none
-  wants-each P (r ∷ rs) (and p ps) =
+  wants-each P [] a = All-nil P
+  wants-each P (r ∷ rs) a =
+      let rest = wants-each P rs (All-tail (λ r. On r → P (want r)) r rs a) in
       elim (cases_Bool (ltb (place e r.aim.paths) h)) [
-        | inl t ↦ subst (Each P) (sym (wants-on r rs t)) (and (p t) (wants-each P rs ps))
-        | inr f ↦ subst (Each P) (sym (wants-off r rs f)) (wants-each P rs ps)
+        | inl t ↦ subst (All P) (sym (wants-on r rs t)) (All-cons P (want r) (wants h e names rs) (All-head (λ r. On r → P (want r)) r rs a t) rest)
+        | inr f ↦ subst (All P) (sym (wants-off r rs f)) rest
       ]
 
-  pub each-wants : (P : Want → Type 0) (rs : List Receiver) → Each P (wants h e names rs) → Each (λ r. On r → P (want r)) rs
-  each-wants P [] w = none
+  pub each-wants : (P : Want → Type 0) (rs : List Receiver) → All P (wants h e names rs) → All (λ r. On r → P (want r)) rs
+  each-wants P [] w = All-nil (λ r. On r → P (want r))
   each-wants P (r ∷ rs) w =
       elim (cases_Bool (ltb (place e r.aim.paths) h)) [
         | inl t ↦
-            let w' : Each P (want r ∷ wants h e names rs) = subst (Each P) (wants-on r rs t) w in
-            and (λ _. each-head P (want r) _ w') (each-wants P rs (each_tail P (want r) _ w'))
-        | inr f ↦ and (λ t. absurd (let z : ◌≡◌ {A = Bool} true false = sym t ∙ f in cc-no z)) (each-wants P rs (subst (Each P) (wants-off r rs f) w))
+            let w' : All P (want r ∷ wants h e names rs) = subst (All P) (wants-on r rs t) w in
+            All-cons (λ r. On r → P (want r)) r rs (λ _. All-head P (want r) (wants h e names rs) w') (each-wants P rs (All-tail P (want r) (wants h e names rs) w'))
+        | inr f ↦ All-cons (λ r. On r → P (want r)) r rs (λ t. absurd (let z : ◌≡◌ {A = Bool} true false = sym t ∙ f in cc-no z)) (each-wants P rs (subst (All P) (wants-off r rs f) w))
       ]
     where
       cc-no : true ≡ false → ⊥
@@ -93,9 +96,9 @@ module _ (F : Field) (h : ℕ) where
     pub coefficients : length c.coefficients ≡ length before
     pub vectors : length c.vectors ≡ length before
     pub small : (k x : ℕ) → at (row c.vectors k) x < size
-    pub kept : Each (Kept F ls h (length before) c.vectors) c.receivers
+    pub kept : All (Kept F ls h (length before) c.vectors) c.receivers
     pub aims : map (λ r. r.aim) c.receivers ≡ as'
-    pub tracks : Each (Tracks h (length before)) c.receivers
+    pub tracks : All (Tracks h (length before)) c.receivers
 
   passed-aim : (e : ℕ) (v : List ℕ) (r : Receiver) → (passed F h e v r).aim ≡ r.aim
   unfolding passed
@@ -115,7 +118,7 @@ module _ (F : Field) (h : ℕ) where
           vectors = length_push c.vectors v ∙ ap suc f.vectors ∙ sym (length_push before l);
           small = push-small size (omega (arith, more)) c.vectors v f.small (λ x. mixed-small F h cs hands x);
           kept =
-              subst (λ n. Each (Kept F z.links h n (c.vectors ++ v ∷ [])) (map (passed F h (length before) v) c.receivers)) (sym (length_push before l))
+              subst (λ n. All (Kept F z.links h n (c.vectors ++ v ∷ [])) (map (passed F h (length before) v) c.receivers)) (sym (length_push before l))
               (each_map (Kept F z.links h (length before) c.vectors) (λ r. On h (length before) names r → serves F h v (row r.dual (place (length before) r.aim.paths)) ≡ true)
               (Kept F z.links h (suc (length before)) (c.vectors ++ v ∷ [])) (passed F h (length before) v) c.receivers
               (λ r s t. passes_kept F h z.links before l after whole c.vectors f.vectors r s v (λ k _. mixed-small F h cs hands k) t)
@@ -123,7 +126,7 @@ module _ (F : Field) (h : ℕ) where
               (each-wants h (length before) names (λ w. serves F h v w.test ≡ true) c.receivers served));
           aims = passed-aims (length before) v c.receivers ∙ f.aims;
           tracks =
-              subst (λ n. Each (Tracks h n) (map (passed F h (length before) v) c.receivers)) (sym (length_push before l))
+              subst (λ n. All (Tracks h n) (map (passed F h (length before) v) c.receivers)) (sym (length_push before l))
               (each_map (Kept F z.links h (length before) c.vectors) (Tracks h (length before)) (Tracks h (suc (length before)))
               (passed F h (length before) v) c.receivers (λ r s t. tracks-more F z g h (length before) v r s.given t) f.kept f.tracks);
         }
@@ -143,18 +146,18 @@ module _ (F : Field) (h : ℕ) where
         v : List ℕ
         v = mixed F h cs hands
 
-        chosen-serve : (serves_all F h (mix F cs hands) [] ≡ true) × Each (λ w. serves F h (mix F cs hands) w.test ≡ true) ws
+        chosen-serve : (serves_all F h (mix F cs hands) [] ≡ true) × All (λ w. serves F h (mix F cs hands) w.test ≡ true) ws
         chosen-serve =
             choose-serves F h hands ws [] (map (λ n. 0) names) refl
             (wants-each h (length before) names (Wanted F h hands) c.receivers
-            (each_same (Kept F z.links h (length before) c.vectors) _ c.receivers
-            (λ r s t. can-be F h z.links before l after whole c.vectors f.vectors r s t (far_from z g before l after whole) f.small) f.kept))
+            (All-weaker (Kept F z.links h (length before) c.vectors) (λ r. On h (length before) names r → Wanted F h hands (want h (length before) names r))
+            (λ r s t. can-be F h z.links before l after whole c.vectors f.vectors r s t (far_from z g before l after whole) f.small) c.receivers f.kept))
             (omega (arith, wants-few h (length before) names c.receivers, ap length f.aims, length-map c.receivers (λ r. r.aim)))
 
-        served : Each (λ w. serves F h v w.test ≡ true) ws
+        served : All (λ w. serves F h v w.test ≡ true) ws
         served =
-            each_same (λ w. serves F h (mix F cs hands) w.test ≡ true) (λ w. serves F h v w.test ≡ true) ws
-            (λ w t. serves-mixed F h cs hands w.test ∙ t) chosen-serve.1
+            All-weaker (λ w. serves F h (mix F cs hands) w.test ≡ true) (λ w. serves F h v w.test ≡ true)
+            (λ w t. serves-mixed F h cs hands w.test ∙ t) ws chosen-serve.1
 
     fine-part : (mid before rest : List Link) (c : Coded) → z.links ≡ before ++ (mid ++ rest) → Fine as' z.links before c
         → Fine as' z.links (before ++ mid) (along F h before mid c)
@@ -171,7 +174,7 @@ module _ (F : Field) (h : ℕ) where
     abbrev pub begin : Coded
     begin = record { coefficients = []; vectors = []; receivers = map (start h) as' }
 
-    module _ (given : Each (Given z.links h) as') where
+    module _ (given : All (Given z.links h) as') where
       -- after the links of any front
       pub fine-at : (before after : List Link) → z.links ≡ before ++ after → Fine as' z.links before (along F h [] before begin)
       fine-at before after whole =

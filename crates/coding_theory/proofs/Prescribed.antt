@@ -15,7 +15,9 @@ use Rattle.linear.proofs.Dual.{of-serves, inverse-same}
 use Rattle.linear.proofs.Lists.{mix-small, length-table}
 use Rattle.network.specs.Network.{Link, Network, Sound}
 use Rattle.network_cuts.specs.Scheme.{Packet, hand}
-use Rattle.coding_theory.specs.Paths.{Aim, Given, Each, none, and}
+use Rattle.std.specs.List.{All}
+use Rattle.std.proofs.lemmas.List.Elements.{All-nil, All-cons, All-head, All-tail, All-weaker}
+use Rattle.coding_theory.specs.Paths.{Aim, Given}
 use Rattle.coding_theory.specs.Coding.{next, choose, place, Carrier, on_carrier, at_hand, trial, Receiver, Want, wants, Coded, chosen, one_more, along, code}
 use Rattle.coding_theory.specs.Rule.{now, Claim, claims, Serves, Leads, over, serves as fits, adds, Prescribed}
 use Rattle.coding_theory.specs.Promise.{AsPrescribed}
@@ -23,8 +25,7 @@ use Rattle.coding_theory.proofs.Choose.{Wanted}
 use Rattle.coding_theory.proofs.Pass.{Rows, Vectors, Kept, can-be}
 use Rattle.coding_theory.proofs.Track.{Tracks}
 use Rattle.coding_theory.proofs.Steps.{chosen-long, along-append, along-coefficients, along-vectors}
-use Rattle.coding_theory.proofs.Each.{each-head, each_tail, each_same}
-use Rattle.coding_theory.proofs.Loop.{Fine, fine-at, begin, wants-each, wants-few, wants-on, wants-off, want, far_from, length_push}
+use Rattle.coding_theory.proofs.Loop.{On, Fine, fine-at, begin, wants-each, wants-few, wants-on, wants-off, want, far_from, length_push}
 
 module _ (F : Field) (h : ℕ) where
   open F use {size, times, laws}
@@ -41,23 +42,23 @@ module _ (F : Field) (h : ℕ) where
     cons : {w : Want} {q : Claim} {ws : List Want} {qs : List Claim} → Match w q → Matched ws qs → Matched (w ∷ ws) (q ∷ qs)
 
   pub record Dones (done : List (List ℕ)) (qs : List Claim) : Type 0 where
-    pub there : (v : List ℕ) → Small F h (at v) → serves_all F h v done ≡ true → Each (Serves F h v) qs
-    pub back : (v : List ℕ) → Small F h (at v) → Each (Serves F h v) qs → serves_all F h v done ≡ true
+    pub there : (v : List ℕ) → Small F h (at v) → serves_all F h v done ≡ true → All (Serves F h v) qs
+    pub back : (v : List ℕ) → Small F h (at v) → All (Serves F h v) qs → serves_all F h v done ≡ true
 
   dones-none : Dones [] []
   unfolding serves_all
-  dones-none = record { there = λ v s t. none; back = λ v s e. refl }
+  dones-none = record { there = λ v s t. All-nil (Serves F h v); back = λ v s e. refl }
 
   dones-more : (done : List (List ℕ)) (qs : List Claim) (w : Want) (q : Claim) → Match w q → Dones done qs → Dones (w.test ∷ done) (q ∷ qs)
   unfolding serves_all
   dones-more done qs w q m d = record {
-    there = λ v s t. let p = and_parts _ _ t in and (m.yes v s p.0) (d.there v s p.1);
+    there = λ v s t. let p = and_parts _ _ t in All-cons (Serves F h v) q qs (m.yes v s p.0) (d.there v s p.1);
     back = λ v s e. and_from _ _
         (elim (cases_Bool (serves F h v w.test)) [
           | inl t ↦ t
-          | inr f ↦ absurd (m.no v s f (each-head (Serves F h v) q qs e))
+          | inr f ↦ absurd (m.no v s f (All-head (Serves F h v) q qs e))
         ])
-        (d.back v s (each_tail (Serves F h v) q qs e));
+        (d.back v s (All-tail (Serves F h v) q qs e));
   }
 
   module _ (hands : List Packet) where
@@ -77,13 +78,15 @@ module _ (F : Field) (h : ℕ) where
     next-adds done cs w t = cond-false _ _ _ t
 
     leads-of : (ws : List Want) (qs : List Claim) → Matched ws qs → (done : List (List ℕ)) (qdone : List Claim) → Dones done qdone → (cs : List ℕ)
-        → serves_all F h (mix F cs hands) done ≡ true → Each (Wanted F h hands) ws → length done + length ws < size
+        → serves_all F h (mix F cs hands) done ≡ true → All (Wanted F h hands) ws → length done + length ws < size
         → Leads F h hands qdone cs qs (choose F h hands done cs ws)
     unfolding choose serves_all
     leads-of [] [] nil done qdone d cs t u room = over
     leads-of [] (q ∷ qs) m done qdone d cs t u room = elim m [ ]
     leads-of (w ∷ ws) [] m done qdone d cs t u room = elim m [ ]
-    leads-of (w ∷ ws) (q ∷ qs) (cons m ms) done qdone d cs t (and u us) room =
+    leads-of (w ∷ ws) (q ∷ qs) (cons m ms) done qdone d cs t a room =
+        let u : Wanted F h hands w = All-head (Wanted F h hands) w ws a in
+        let us = All-tail (Wanted F h hands) w ws a in
         elim (cases_Bool (serves F h (mix F cs hands) w.test)) [
           | inl sv ↦
               subst (λ x. Leads F h hands qdone cs (q ∷ qs) (choose F h hands (w.test ∷ done) x ws)) (sym (next-same done cs w sv))
@@ -95,7 +98,7 @@ module _ (F : Field) (h : ℕ) where
               let t₀ : ℕ = lowest (test cs w done) (size - 1) 1 in
               subst (λ x. Leads F h hands qdone cs (q ∷ qs) (choose F h hands (w.test ∷ done) x ws)) (sym (next-adds done cs w un))
               (adds (m.no _ (small-mix cs) un) t₀
-              (subst (λ ds. Lowest size (λ k. Each (Serves F h (mix F (plus cs (scale F k ds)) hands)) (q ∷ qdone)) t₀) m.alike
+              (subst (λ ds. Lowest size (λ k. All (Serves F h (mix F (plus cs (scale F k ds)) hands)) (q ∷ qdone)) t₀) m.alike
               (record {
                 some = low.some;
                 below = low.below;
@@ -149,10 +152,14 @@ module _ (F : Field) (h : ℕ) where
         inv : Inverse F h (Rows F r) b
         inv = inverse-same F h (Rows F r) (Rows F r) (Vectors F h vs r) b (λ i k li lk. refl) (λ i k li lk. ap (λ c. at (on_carrier (units h) vs c) k) (sym (t i li))) s.dual
 
-    matched : (rs : List Receiver) → Each (Kept F ls h e vs) rs → Each (Tracks h e) rs → Matched (wants h e names rs) (claims h e names vs (map (λ r. r.aim) rs))
+    matched : (rs : List Receiver) → All (Kept F ls h e vs) rs → All (Tracks h e) rs → Matched (wants h e names rs) (claims h e names vs (map (λ r. r.aim) rs))
     unfolding wants claims
-    matched [] none none = nil
-    matched (r ∷ rs) (and s ss) (and t ts) =
+    matched [] a b = nil
+    matched (r ∷ rs) a b =
+        let s = All-head (Kept F ls h e vs) r rs a in
+        let ss = All-tail (Kept F ls h e vs) r rs a in
+        let t = All-head (Tracks h e) r rs b in
+        let ts = All-tail (Tracks h e) r rs b in
         elim (cases_Bool (ltb (place e r.aim.paths) h)) [
           | inl on ↦
               subst (λ ws. Matched ws (claims h e names vs (r.aim ∷ map (λ r. r.aim) rs))) (sym (wants-on h e names r rs on))
@@ -163,7 +170,7 @@ module _ (F : Field) (h : ℕ) where
         ]
 
   -- THE RUN
-  module _ (as' : List Aim) (few : length as' < size) (z : Network) (g : Sound z) (given : Each (Given z.links h) as') where
+  module _ (as' : List Aim) (few : length as' < size) (z : Network) (g : Sound z) (given : All (Given z.links h) as') where
     module _ (before : List Link) (l : Link) (after : List Link) (whole : z.links ≡ before ++ l ∷ after) where
       c : Coded
       c = along F h [] before (begin F h as' few z g)
@@ -210,8 +217,8 @@ module _ (F : Field) (h : ℕ) where
           (matched z.links (length before) names c.vectors c.receivers f.kept f.tracks))
           [] [] dones-none (map (λ n. 0) names) refl
           (wants-each h (length before) names (Wanted F h hands) c.receivers
-          (each_same (Kept F z.links h (length before) c.vectors) _ c.receivers
-          (λ r s t. can-be F h z.links before l after whole c.vectors f.vectors r s t (far_from z g before l after whole) f.small) f.kept))
+          (All-weaker (Kept F z.links h (length before) c.vectors) (λ r. On h (length before) names r → Wanted F h hands (want h (length before) names r))
+          (λ r s t. can-be F h z.links before l after whole c.vectors f.vectors r s t (far_from z g before l after whole) f.small) c.receivers f.kept))
           (omega (arith, wants-few h (length before) names c.receivers, ap length f.aims, length-map c.receivers (λ r. r.aim)))
         where
           names : List Carrier

@@ -10,15 +10,16 @@ use Rattle.linear.proofs.Reading.{rows-read, only-rows}
 use Rattle.network.specs.Network.{Network, Sound}
 use Rattle.network_cuts.specs.Scheme.{Packet, carried}
 use Rattle.coding_theory.specs.Coding.{linear, rows, on_carrier, Receiver, current_at, Coded, code}
-use Rattle.coding_theory.specs.Paths.{Each, Aim, Given}
+use Rattle.std.specs.List.{All}
+use Rattle.std.proofs.lemmas.List.Elements.{All-weaker}
+use Rattle.coding_theory.specs.Paths.{Aim, Given}
 use Rattle.coding_theory.specs.Promise.{Ends, Reads, Reader, Served, AllAtOnce}
 use Rattle.coding_theory.proofs.Paths.{under-over}
 use Rattle.coding_theory.proofs.Pass.{Rows, Vectors, Kept}
-use Rattle.coding_theory.proofs.Each.{each_same}
 use Rattle.coding_theory.proofs.Loop.{Fine, fine}
 use Rattle.coding_theory.proofs.Carry.{Is, along-is, is-on}
 
-module _ (F : Field) (z : Network) (g : Sound z) (h : ℕ) (as' : List Aim) (few : length as' < F.size) (given : Each (Given z.links h) as') where
+module _ (F : Field) (z : Network) (g : Sound z) (h : ℕ) (as' : List Aim) (few : length as' < F.size) (given : All (Given z.links h) as') where
   open F use {size, times, laws}
   open laws use {more}
 
@@ -67,7 +68,7 @@ module _ (F : Field) (z : Network) (g : Sound z) (h : ℕ) (as' : List Aim) (few
     all = f.aims;
     each-link = (f.coefficients, f.vectors);
     vectors = λ n m msg e le i li. both_at (Is F n h m) (sent n m) c.vectors [] [] (all-is n m msg) e (omega (arith, f.vectors, both-length (Is F n h m) (sent n m) c.vectors (all-is n m msg))) i li;
-    readers = each_same (Kept F z.links h (length z.links) c.vectors) (Reader F z h c) c.receivers (λ r s. reader r s) f.kept;
+    readers = All-weaker (Kept F z.links h (length z.links) c.vectors) (Reader F z h c) (λ r s. reader r s) c.receivers f.kept;
   }
 
   served : Served F z h as' (code F z h as')

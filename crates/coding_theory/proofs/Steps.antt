@@ -11,13 +11,14 @@ use Rattle.linear.proofs.Lists.{length-plus, length-scale}
 use Rattle.network.specs.Network.{Link}
 use Rattle.network_cuts.specs.Scheme.{hand}
 use Rattle.coding_theory.specs.Coding.{place, Carrier, at_hand, Receiver, Want, wants, next, choose, Coded, chosen, one_more, along}
-use Rattle.coding_theory.specs.Paths.{Each, none, and}
+use Rattle.std.specs.List.{All}
+use Rattle.std.proofs.lemmas.List.Elements.{All-nil, All-cons, All-head, All-tail}
 
-pub wants-long : (h e : ℕ) (names : List Carrier) (rs : List Receiver) → Each (λ w. length w.trial ≡ length names) (wants h e names rs)
+pub wants-long : (h e : ℕ) (names : List Carrier) (rs : List Receiver) → All (λ w. length w.trial ≡ length names) (wants h e names rs)
 unfolding wants
-wants-long h e names [] = none
+wants-long h e names [] = All-nil (λ w. length w.trial ≡ length names)
 wants-long h e names (r ∷ rs) =
-    cond_both (ltb (place e r.aim.paths) h) _ _ (Each (λ w. length w.trial ≡ length names)) (λ _. and (length-map names _) (wants-long h e names rs)) (λ _. wants-long h e names rs)
+    cond_both (ltb (place e r.aim.paths) h) _ _ (All (λ w. length w.trial ≡ length names)) (λ _. All-cons (λ w. length w.trial ≡ length names) _ (wants h e names rs) (length-map names _) (wants-long h e names rs)) (λ _. wants-long h e names rs)
 
 module _ (F : Field) (h : ℕ) where
   open F use {size}
@@ -31,11 +32,12 @@ module _ (F : Field) (h : ℕ) where
       t : ℕ
       t = lowest (λ t. serves_all F h (mix F (plus cs (scale F t w.trial)) hands) (w.test ∷ done)) (size - 1) 1
 
-  pub choose-long : (n : ℕ) (hands : List (List ℕ)) (ws : List Want) (done : List (List ℕ)) (cs : List ℕ) → Each (λ w. length w.trial ≡ n) ws → length cs ≡ n
+  pub choose-long : (n : ℕ) (hands : List (List ℕ)) (ws : List Want) (done : List (List ℕ)) (cs : List ℕ) → All (λ w. length w.trial ≡ n) ws → length cs ≡ n
       → length (choose F h hands done cs ws) ≡ n
   unfolding choose
-  choose-long n hands [] done cs none lc = lc
-  choose-long n hands (w ∷ ws) done cs (and lw lws) lc = choose-long n hands ws (w.test ∷ done) (next F h hands done cs w) lws (next-long n hands done cs w lw lc)
+  choose-long n hands [] done cs a lc = lc
+  choose-long n hands (w ∷ ws) done cs a lc =
+      choose-long n hands ws (w.test ∷ done) (next F h hands done cs w) (All-tail (λ w. length w.trial ≡ n) w ws a) (next-long n hands done cs w (All-head (λ w. length w.trial ≡ n) w ws a) lc)
 
   -- a coefficient for each carrier at hand
   pub chosen-long : (before : List Link) (l : Link) (c : Coded) → length (chosen F h before l c) ≡ length (at_hand h l.from before)

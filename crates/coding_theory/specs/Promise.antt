@@ -16,7 +16,8 @@ use Rattle.linear.specs.Transport.{Message}
 use Rattle.linear.specs.Reading.{read_by, Square}
 use Rattle.network.specs.Network.{Link, Network, Sound, link_at}
 use Rattle.network_cuts.specs.Scheme.{Packet, carried}
-use Rattle.coding_theory.specs.Paths.{Each, Aim, Given}
+use Rattle.std.specs.List.{All}
+use Rattle.coding_theory.specs.Paths.{Aim, Given}
 use Rattle.coding_theory.specs.Coding.{Carrier, message, link, on_carrier, at_hand, Receiver, current_at, Coded, code, linear, packets, rows}
 use Rattle.coding_theory.specs.Rule.{Prescribed}
 
@@ -44,12 +45,12 @@ module _ (F : Field) where
     -- what link e carries is the mix of the message by its vector
     pub vectors : (n : ℕ) (m : List Packet) → Message F n h m → (e : ℕ) → e < length z.links → (i : ℕ) → i < n
         → at (row (carried z (linear F n c.coefficients) m) e) i ≡ sum h (λ k. times (at (row c.vectors e) k) (at (row m k) i))
-    pub readers : Each (Reader z h c) c.receivers
+    pub readers : All (Reader z h c) c.receivers
 
 -- over any field, as long as there are fewer receivers than field elements
 abbrev pub AllAtOnce : Type 0
 AllAtOnce =
-    (F : Field) (z : Network) → Sound z → (h : ℕ) (as' : List Aim) → length as' < F.size → Each (Given z.links h) as'
+    (F : Field) (z : Network) → Sound z → (h : ℕ) (as' : List Aim) → length as' < F.size → All (Given z.links h) as'
     → Served F z h as' (code F z h as')
 
 pub record OnlyOnes (F : Field) (z : Network) (h : ℕ) (as' : List Aim) (c : Coded) : Type 0 where
@@ -61,5 +62,5 @@ pub record OnlyOnes (F : Field) (z : Network) (h : ℕ) (as' : List Aim) (c : Co
 
 abbrev pub AsPrescribed : Type 0
 AsPrescribed =
-    (F : Field) (z : Network) → Sound z → (h : ℕ) (as' : List Aim) → length as' < F.size → Each (Given z.links h) as'
+    (F : Field) (z : Network) → Sound z → (h : ℕ) (as' : List Aim) → length as' < F.size → All (Given z.links h) as'
     → OnlyOnes F z h as' (code F z h as')

@@ -13,7 +13,8 @@ use Rattle.linear.specs.Lowest.{Lowest}
 use Rattle.linear.specs.Dual.{put}
 use Rattle.network.specs.Network.{Link, Network}
 use Rattle.network_cuts.specs.Scheme.{Packet, hand}
-use Rattle.coding_theory.specs.Paths.{Each, Aim}
+use Rattle.std.specs.List.{All}
+use Rattle.coding_theory.specs.Paths.{Aim}
 use Rattle.coding_theory.specs.Coding.{place, Carrier, message, link, on_carrier, at_hand, trial}
 
 -- c if none of the path's links stands before e
@@ -56,7 +57,7 @@ module _ (F : Field) where
     -- it is not: the lowest t from 1 on for which it and those before it are served
     adds : {done : List Claim} {cs : List ℕ} {q : Claim} {qs : List Claim} {out : List ℕ}
         → (Serves h (mix F cs hands) q → ⊥)
-        → (t : ℕ) → Lowest size (λ k. Each (Serves h (mix F (plus cs (scale F k q.trial)) hands)) (q ∷ done)) t
+        → (t : ℕ) → Lowest size (λ k. All (Serves h (mix F (plus cs (scale F k q.trial)) hands)) (q ∷ done)) t
         → Leads h hands (q ∷ done) (plus cs (scale F t q.trial)) qs out → Leads h hands done cs (q ∷ qs) out
 
   pub record Prescribed (z : Network) (h : ℕ) (as' : List Aim) (cs vs : List (List ℕ)) : Type 0 where

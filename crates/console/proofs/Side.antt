@@ -1,18 +1,16 @@
--- Whether a link leads out of a set, by its ends, and the links out of a set so far with one more.
-use Rattle.std.proofs.Common.{◌≡◌, ℕ, ◌+◌, ◌<◌, Bool, cond, not, ◌&&◌, List, [], ◌∷◌, ◌++◌, length, take, sym, ap, ◌∙◌, ap₂, arith}
-use Rattle.std.proofs.lemmas.List.{take_more}
-use Rattle.network.specs.Network.{Link, link_at}
+-- How many links lead out of a set, counted one by one.
+use Rattle.std.proofs.Common.{◌≡◌, ℕ, ◌+◌, Bool, true, false, cond, List, refl, arith}
+use Rattle.std.specs.Prelude.{count_by}
+use Rattle.std.proofs.lemmas.List.Recursion.{is_count_by}
+use Rattle.network.specs.Links.{link_of, links_of}
+use Rattle.network.specs.declared.net.Link.{Link as Joined}
 use Rattle.network_cuts.specs.Cut.{out}
 use Rattle.console.specs.Side.{within, leaves}
 
-pub leaves-from : (side : List Bool) (l : Link) (f t : ℕ) → l.from ≡ f → l.to ≡ t → within side f && not (within side t) ≡ leaves side l
-leaves-from side l f t e g = ap₂ (λ a b. within side a && not (within side b)) (sym e) (sym g)
+one_more : (b : Bool) (n : ℕ) → cond b 1 0 + n ≡ cond b (1 + n) n
+one_more true n = refl
+one_more false n = omega arith
 
-out-push : (side : ℕ → Bool) (ls : List Link) (l : Link) → out side (ls ++ l ∷ []) ≡ out side ls + cond (side l.from && not (side l.to)) 1 0
+pub out-counted : (side : List Bool) (ls : List Joined) → out (within side) (links_of ls) ≡ count_by (λ l. leaves side (link_of l)) ls
 unfolding out
-out-push side [] l = omega arith
-out-push side (x ∷ ls) l = let ih = out-push side ls l in omega arith
-
-pub out-take : (side : ℕ → Bool) (ls : List Link) (k : ℕ) → k < length ls
-    → out side (take (k + 1) ls) ≡ out side (take k ls) + cond (side (link_at ls k).from && not (side (link_at ls k).to)) 1 0
-out-take side ls k h = ap (out side) (take_more ls k (record { from = 0; to = 0 }) h) ∙ out-push side (take k ls) (link_at ls k)
+out-counted side = is_count_by (λ ls. out (within side) (links_of ls)) (λ l. leaves side (link_of l)) refl (λ l ls. one_more (leaves side (link_of l)) (out (within side) (links_of ls)))

@@ -1,9 +1,11 @@
 // Stopping early.
-ghost use Rattle.std.specs.Prelude.{◌≡◌, MatchResult};
+ghost use Rattle.std.specs.Prelude.{◌≡◌, Some, codes, MatchResult};
 ghost use Rattle.std.specs.Process.{exit_status};
 
-use std::io;
+use std::alloc::AllocError;
+use std::fmt::Display;
 use std::process::ExitCode;
+use std::{fmt, io};
 
 // Why a program stops early, once it has said so.
 #[derive(Drop)]
@@ -12,6 +14,24 @@ pub struct Stopped;
 impl From<io::Error> for Stopped {
     fn from(_e: io::Error) -> Stopped {
         Stopped
+    }
+}
+
+// That memory is wanting, in the programs' words.
+#[derive(Clone, Copy, Debug, PartialEq, Eq)]
+pub struct OutOfMemory;
+
+impl From<AllocError> for OutOfMemory {
+    fn from(_e: AllocError) -> OutOfMemory {
+        OutOfMemory
+    }
+}
+
+impl Display for OutOfMemory {
+    ghost output = { λ _. Some (codes "not enough memory") };
+
+    fn fmt<W: fmt::Write>(&self, f: &mut fmt::Formatter<W>) -> fmt::Result {
+        f.write_str("not enough memory")
     }
 }
 

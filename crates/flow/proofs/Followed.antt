@@ -5,8 +5,9 @@ use Rattle.std.proofs.lemmas.List.{at_drop_more}
 use Rattle.std.proofs.lemmas.Bool.{eq-eqb, ne_eqb, lt-ltb, le-ltb, cond-true, cond-false, and_from, and_right, not_from_false}
 use Rattle.network.specs.Network.{Link, link_at}
 use Rattle.network.specs.Values.{graph}
-use Rattle.network.specs.declared.net.Network.{Network as Columns}
-use Rattle.network.proofs.Sound.{to_is, links-long, ends-at}
+use Rattle.network.specs.declared.net.Network.{Network as Graph}
+use Rattle.network.specs.declared.net.Link.{Link as Joined}
+use Rattle.network.proofs.Sound.{sound, links-long, ends-at}
 use Rattle.flow_theory.specs.Flow.{is_used, out_of, flagged, turn, turn_all, used_count, lowest, follow, parted}
 use Rattle.flow_theory.proofs.Lists.{Every, listed-every, flagged-every}
 use Rattle.flow_theory.proofs.Follow.{Out, count_less}
@@ -67,20 +68,20 @@ pub used-on : (us us' : List Bool) (k : ℕ) (f g : List ℕ) → is_used us k �
 used-on us us' k f g u e c = c ∙ turn-taken us k g u ∙ ap (λ x. turn_all x us) (sym e)
 
 -- a used link that was found in a node's list, and where it ends
-module _ (z : Columns) (us : List Bool) (q : ℕ) (row : List ℕ) (listed : row ≡ out_of (graph z).links q) (k : ℕ) (found : (ks : List ℕ) × (flagged us true row ≡ k ∷ ks)) where
+module _ (z : Graph) (us : List Bool) (q : ℕ) (row : List ℕ) (listed : row ≡ out_of (graph z).links q) (k : ℕ) (found : (ks : List ℕ) × (flagged us true row ≡ k ∷ ks)) where
   pub found-out : (ks : List ℕ) × (flagged us true (out_of (graph z).links q) ≡ k ∷ ks)
   found-out = (found.0, ap (flagged us true) (sym listed) ∙ found.1)
 
   pub found-used : is_used us k ≡ true
   found-used = (first_out (graph z).links 0 q us k found-out.0 found-out.1).1
 
-  pub found_below : k < vec_len z.from
+  pub found_below : k < vec_len z.links
   found_below = omega (arith, links-long z, (first_out (graph z).links 0 q us k found-out.0 found-out.1).0.0)
 
-  pub end_read : (x : ℕ) → x ≡ get_or (vec_items z.to) k x → (x < z.nodes) × (x ≡ (link_at (graph z).links k).to)
-  end_read x e =
-      let a = ends-at z k x found_below e in
-      (omega (arith, a, to_is z k found_below, (z.within k found_below).1), sym a)
+  pub end_read : (l : Joined) → l ≡ get_or (vec_items z.links) k l → (l.to < z.nodes) × (l.to ≡ (link_at (graph z).links k).to)
+  end_read l e =
+      let a = ends-at z k l found_below e in
+      (omega (arith, a, ((sound z).within k (omega (arith, links-long z, found_below))).1), sym a)
 
 -- one path more
 pub parted-more : (ls : List Link) (p m : ℕ) (us us' : List Bool) (path : List ℕ) → path ≡ follow ls p (used_count us) 0 us → us' ≡ turn_all (follow ls p (used_count us) 0 us) us → parted ls p (suc m) us ≡ path ∷ parted ls p m us'

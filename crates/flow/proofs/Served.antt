@@ -1,9 +1,5 @@
 -- What is found serves: the theorem on the definition, carried over to the program's value.
-use Rattle.std.proofs.Common.{◌≡◌, ℕ, ◌-◌, ◌<◌, Bool, false, List, length, take, replicate, Some, None, vec_len, Option, sym, ap, ◌∙◌, subst, arith}
-use Rattle.std.proofs.lemmas.List.{take-replicate}
-use Rattle.network.specs.Values.{graph}
-use Rattle.network.specs.declared.net.Network.{Network as Columns}
-use Rattle.network.proofs.Sound.{links-long}
+use Rattle.std.proofs.Common.{◌≡◌, ℕ, ◌<◌, Bool, false, List, length, replicate, Some, None, Option, sym, ap, ◌∙◌, subst}
 use Rattle.network.specs.Network.{Network, Sound}
 use Rattle.network_cuts.proofs.Across.{alike}
 use Rattle.flow_theory.specs.Flow.{parted, paths, cut, augment, paths_or_cut}
@@ -27,8 +23,3 @@ module _ (z : Network) (h p : ℕ) (us us' : List Bool) (none : us ≡ replicate
 
   pub found-paths : (ws : List (List ℕ)) → o ≡ None → ws ≡ parted z.links p h us' → paths_or_cut z h p ≡ paths ws
   found-paths ws e f = ap (augment z h p h) (sym none) ∙ subst (Grown z h p us us') e g ∙ ap paths (sym f)
-
-pub none-used : (z : Columns) (n : ℕ) → n ≡ vec_len z.from → take (n - 0) (replicate 1024 false) ≡ replicate (length (graph z).links) false
-none-used z n e =
-    let is : n - 0 ≡ length (graph z).links = omega (arith, links-long z) in
-    ap (λ m. take m (replicate 1024 false)) is ∙ take-replicate (length (graph z).links) 1024 false (omega (arith, links-long z, z.limits.2))

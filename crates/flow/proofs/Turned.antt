@@ -1,7 +1,11 @@
 -- Paths one after the other: where the receiver stands in the queue, the links that led there, and what turning them gives.
-use Rattle.std.proofs.Common.{◌≡◌, ℕ, zero, suc, ◌+◌, ◌<◌, ◌≤◌, Bool, true, false, List, [], ◌∷◌, ◌++◌, length, get_or, sym, refl, ap, ◌∙◌, inl, inr, arith, length-append}
+use Rattle.std.proofs.Common.{◌≡◌, ℕ, zero, suc, ◌+◌, ◌<◌, ◌≤◌, Bool, true, false, not, cond, List, [], ◌∷◌, ◌++◌, length, get_or, eqb, Some, None, sym, refl, ap, ◌∙◌, inl, inr, arith, length-append}
 use Rattle.std.proofs.lemmas.List.{get_or_append_left, get_or_push, get_or_past}
-use Rattle.std.proofs.lemmas.Bool.{cases_lt, cases_Bool, eq-eqb, ne_eqb}
+use Rattle.std.proofs.lemmas.Bool.{both_ways, cases_lt, cases_Bool, eq-eqb, eqb-true, lt-ltb, ne_eqb, not-true}
+use Rattle.std.proofs.lemmas.Option.{none-some}
+use Rattle.std.proofs.lemmas.List.Sums.{prefix_len_passes}
+use Rattle.std.proofs.lemmas.List.Quantifiers.{position-Some}
+use Rattle.std.specs.List.{position, position_or_len}
 use Rattle.network.specs.Network.{Network, Sound}
 use Rattle.flow_theory.specs.Flow.{Way, start, is_reached, links_to, reached, turn, turn_all, augment, cut}
 use Rattle.flow_theory.specs.Order.{Walk}
@@ -21,17 +25,34 @@ first-at [] q i l e n = absurd (omega arith)
 first-at (w ∷ ws) q zero l e n = rw (eq-eqb q w.node (sym e)) (refl, refl)
 first-at (w ∷ ws) q (suc i) l e n = rw (ne_eqb q w.node (λ a. n 0 (omega arith) (sym a))) (first-at ws q i (omega arith) e (λ j a. n (suc j) (omega arith)))
 
-pub stands_at : (rs : List Reached) (q i : ℕ) → i < length rs → (reached_at rs i).node ≡ q → ((j : ℕ) → j < i → (reached_at rs j).node ≡ q → ⊥) → StandsAt rs q i
-stands_at rs q i l e n =
-    let f = first-at (ways_of rs) q i (omega (arith, ways-length rs)) (node_at rs i l ∙ e) (λ j a b. n j a (sym (node_at rs j (omega arith)) ∙ b)) in
-    record { within = l; found = f.0; links = f.1 }
+-- the first place at which a node stands in the queue
+module _ (rs : List Reached) (q : ℕ) where
+  abbrev is : Reached → Bool
+  is r = eqb r.node q
 
-pub not_there : (rs : List Reached) (q : ℕ) → ((j : ℕ) → j < length rs → (reached_at rs j).node ≡ q → ⊥) → is_reached q (ways_of rs) ≡ false
-not_there rs q n =
-    elim (cases_Bool (is_reached q (ways_of rs))) [
-      | inl h ↦ let p = place (ways_of rs) q h in let l : p.0 < length rs = omega (arith, ways-length rs, p.1) in absurd (n p.0 l (sym (node_at rs p.0 l) ∙ p.2))
-      | inr h ↦ h
-    ]
+  pub stands_at : (i : ℕ) → position is rs ≡ Some i → StandsAt rs q i
+  stands_at i e =
+      let p = position-Some is rs i (record { node = 0; link = 0; place = 0 }) e in
+      let f = first-at (ways_of rs) q i (omega (arith, ways-length rs, p.0)) (node_at rs i p.0 ∙ eqb-true _ _ p.1)
+      (λ j a b. both_ways (is (reached_at rs j)) (p.2 j a) (eq-eqb _ _ (sym (node_at rs j (omega (arith, p.0))) ∙ b))) in
+      record { within = p.0; found = f.0; links = f.1 }
+
+  none-passes : position is rs ≡ None → (j : ℕ) → j < length rs → is (reached_at rs j) ≡ false
+  none-passes e j l =
+      elim (cases_lt (position_or_len is rs) (length rs)) [
+        | inl a ↦ absurd (none-some (position_or_len is rs) (sym e ∙ ap (λ b. cond b (Some (position_or_len is rs)) None) (lt-ltb (position_or_len is rs) (length rs) a)))
+        | inr a ↦ not-true _ (prefix_len_passes (λ r. not (is r)) rs j (record { node = 0; link = 0; place = 0 }) (omega (arith, a, l)))
+      ]
+
+  pub not_there : position is rs ≡ None → is_reached q (ways_of rs) ≡ false
+  not_there e =
+      elim (cases_Bool (is_reached q (ways_of rs))) [
+        | inl h ↦
+            let p = place (ways_of rs) q h in
+            let l : p.0 < length rs = omega (arith, ways-length rs, p.1) in
+            absurd (both_ways (is (reached_at rs p.0)) (none-passes e p.0 l) (eq-eqb _ _ (sym (node_at rs p.0 l) ∙ p.2)))
+        | inr h ↦ h
+      ]
 
 -- the links that led to a place
 abbrev way_of : List Way → Reached → Way

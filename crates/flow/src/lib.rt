@@ -6,5 +6,5 @@ mod decomposition;
 mod finder;
 mod found;
 
-pub use finder::paths_or_cut;
+pub use finder::{find, paths_or_cut};
 pub use found::{Found, Refusal};

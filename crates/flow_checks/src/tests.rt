@@ -33,7 +33,7 @@ fn find(
         return Err(Fail::new("not a net"));
     };
     let adjacency = Adjacency::of(heap, &net.network)?;
-    Ok(paths_or_cut(heap, &net.network, &adjacency, receiver, h))
+    Ok(paths_or_cut(heap, &adjacency, receiver, h))
 }
 
 fn check_paths(
@@ -162,6 +162,28 @@ fn no_receiver(rt: HostRuntime) -> Result<(), Fail> {
     for node in [0, 2, 256] {
         let found = find(heap, 2, &[(0, 1)], 1, node)?;
         assert!(rt; matches!(found, Err(Refusal::NoReceiver)));
+    }
+    Ok(())
+}
+
+// Nodes that can be receivers are found without a refusal of their own.
+#[test]
+fn found_for_a_node(rt: HostRuntime) -> Result<(), Fail> {
+    let heap = rt.alloc();
+    let bytes = bytes_of(heap, 3, &[(0, 1)])?;
+    let Ok(net) = network::read(heap, &bytes) else {
+        return Err(Fail::new("not a net"));
+    };
+    let adjacency = Adjacency::of(heap, &net.network)?;
+    for node in 1..net.network.nodes {
+        match flow::find(heap, &adjacency, node, 1)? {
+            Found::Paths(paths) => {
+                assert_eq!(rt; node, 1);
+                assert_eq!(rt; paths.len(), 1);
+                assert_eq!(rt; paths[0].as_slice(), [0].as_slice());
+            }
+            Found::Cut(_) => assert_eq!(rt; node, 2),
+        }
     }
     Ok(())
 }

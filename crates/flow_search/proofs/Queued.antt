@@ -99,6 +99,10 @@ module _ (n : ℕ) (lead : ℕ → ℕ) (us : List Bool) (u : Bool) (row : List 
     pub ways : ways_of rs ≡ after j
     pub queued : Queued n rs marks
 
+  -- the queue doesn't get shorter
+  pub kept-long : (j : ℕ) (rs : List Reached) (marks : List Bool) → Kept j rs marks → length ws ≤ length rs
+  kept-long j rs marks h = omega (arith, ways-length rs, ap length h.ways, (go-longer lead w (flagged us u (take j row)) ws).0)
+
   -- one link more
   after_more : (j : ℕ) → j < length row → after (j + 1) ≡ go_on lead w (flagged us u (get_or row j 0 ∷ [])) (after j)
   after_more j l =
@@ -119,23 +123,24 @@ module _ (n : ℕ) (lead : ℕ → ℕ) (us : List Bool) (u : Bool) (row : List 
     unfolding flagged go_on
     after-add e = after_more j l ∙ rw e
 
-    -- a link to a node that is marked
-    pub kept-marked : beq (is_used us k) u ≡ true → lead k < length marks → get_or marks (lead k) false ≡ true → Kept (j + 1) rs marks
-    unfolding add
-    kept-marked e b m =
-        let r : is_reached (lead k) (after j) ≡ true = ap (is_reached (lead k)) (sym h.ways) ∙ sym (h.queued.marked (lead k) b) ∙ m in
-        record { ways = h.ways ∙ sym (after-add e ∙ rw r); queued = h.queued }
+    module _ (q : ℕ) (leads : q ≡ lead k) where
+      -- a link to a node that is marked
+      pub kept-marked : beq (is_used us k) u ≡ true → q < length marks → get_or marks q false ≡ true → Kept (j + 1) rs marks
+      unfolding add
+      kept-marked e b m =
+          let r : is_reached (lead k) (after j) ≡ true = ap (is_reached (lead k)) (sym h.ways) ∙ ap (λ x. is_reached x (ways_of rs)) (sym leads) ∙ sym (h.queued.marked q b) ∙ m in
+          record { ways = h.ways ∙ sym (after-add e ∙ rw r); queued = h.queued }
 
-    -- a link to a node that is reached over it
-    pub kept_new : place < length ws → beq (is_used us k) u ≡ true → k < n → lead k < length marks → get_or marks (lead k) false ≡ false → Kept (j + 1) (rs ++ record { node = lead k; link = k; place = place } ∷ []) (set marks (lead k) true)
-    unfolding add
-    kept_new inside e f b m =
-        let r : is_reached (lead k) (after j) ≡ false = ap (is_reached (lead k)) (sym h.ways) ∙ sym (h.queued.marked (lead k) b) ∙ m in
-        let long = go-longer lead w (flagged us u (take j row)) ws in
-        let x : Reached = record { node = lead k; link = k; place = place } in
-        let p : place < length rs = omega (arith, ways-length rs, ap length h.ways, long.0) in
-        let same : get_or (ways_of rs) place start ≡ w = ap (λ v. get_or v place start) h.ways ∙ long.1 place inside in
-        record {
-          ways = ways-push rs x (omega arith) ∙ rw (same, h.ways, after-add e, r);
-          queued = queued-push n rs marks x p f b h.queued;
-        }
+      -- a link to a node that is reached over it
+      pub kept_new : place < length ws → beq (is_used us k) u ≡ true → k < n → q < length marks → get_or marks q false ≡ false → Kept (j + 1) (rs ++ record { node = q; link = k; place = place } ∷ []) (set marks q true)
+      unfolding add
+      kept_new inside e f b m =
+          let r : is_reached (lead k) (after j) ≡ false = ap (is_reached (lead k)) (sym h.ways) ∙ ap (λ x. is_reached x (ways_of rs)) (sym leads) ∙ sym (h.queued.marked q b) ∙ m in
+          let long = go-longer lead w (flagged us u (take j row)) ws in
+          let x : Reached = record { node = q; link = k; place = place } in
+          let p : place < length rs = omega (arith, ways-length rs, ap length h.ways, long.0) in
+          let same : get_or (ways_of rs) place start ≡ w = ap (λ v. get_or v place start) h.ways ∙ long.1 place inside in
+          record {
+            ways = ways-push rs x (omega arith) ∙ rw (leads, same, h.ways, after-add e, r);
+            queued = queued-push n rs marks x p f b h.queued;
+          }

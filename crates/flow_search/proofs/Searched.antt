@@ -67,6 +67,11 @@ unfolding is_reached
 first-mark n zero l = get_or-set_same (replicate n false) 0 true false (rw (length-set (replicate n false) 0 true) at l)
 first-mark n (suc q) l = let ne : suc q ≡ 0 → ⊥ = λ e. omega arith in get_or-set_other (replicate n false) 0 (suc q) true false ne ∙ none-marked n (suc q) ∙ rw (ne_eqb (suc q) 0 ne)
 
+-- and before that none
+pub none-queued : (n : ℕ) → Queued n [] (replicate 256 false)
+unfolding ways_of is_reached
+none-queued n = record { linked = λ j a l. absurd (omega arith); marked = λ q l. none-marked 256 q }
+
 module _ (z : Network) (sound : Sound z) (us : List Bool) where
   pub over_below : (k q r : ℕ) → Goes z.links us k q r → r < z.nodes
   over_below k q r (l, inl a) = rw a.2 at (sound.within k l).1

@@ -2,10 +2,9 @@
 #![tactic(auto)]
 
 mod adjacency;
-mod breadth_first;
-mod listing;
 mod reached;
+mod search;
 
-pub use adjacency::{Adjacency, Rows};
-pub use breadth_first::search;
+pub use adjacency::Adjacency;
 pub use reached::Reached;
+pub use search::Search;

@@ -12,8 +12,9 @@ pub type Packet = [u8; PACKET_LENGTH];
 pub fn add_multiple(out: &mut Packet, factor: u8, packet: &Packet)
     ensures { (k : ℕ) → k < 1024 → slice_index out.new k ≡ added_at out.old factor packet.now k }
 {
-    for i in 0..PACKET_LENGTH {
-        out[i] ^= mul(factor, packet[i]);
+    // By `out.iter_mut().zip(packet)` what `out` holds after the loop stays unknown to the proof.
+    for (i, byte) in packet.iter().enumerate() {
+        out[i] ^= mul(factor, *byte);
     }
 }
 
@@ -22,8 +23,8 @@ pub fn mix(factors: &[u8], packets: &[Packet]) -> Packet
     ensures { (k : ℕ) → k < 1024 → slice_index result k ≡ mix_at factors.now packets.now k }
 {
     let mut out = [0; PACKET_LENGTH];
-    for j in 0..factors.len().min(packets.len()) {
-        add_multiple(&mut out, factors[j], &packets[j]);
+    for (factor, packet) in factors.iter().zip(packets) {
+        add_multiple(&mut out, *factor, packet);
     }
     out
 }

@@ -1,5 +1,5 @@
 // Coding vectors: up to 32 coefficients, passed by value.
-ghost use Rattle.std.specs.Prelude.{◌≡◌, ℕ, ◌<◌, ◌≤◌, min, max, ◌⊎◌, replicate, MatchOption, slice_index, slice_set};
+ghost use Rattle.std.specs.Prelude.{◌≡◌, ℕ, ◌<◌, ◌≤◌, min, max, ◌⊎◌, length, take, replicate, MatchOption, slice_index, slice_set};
 ghost use Rattle.gf_bytes.specs.Vector.{MultipleOf, SumOf, dot_of};
 
 use crate::byte::mul;
@@ -8,8 +8,8 @@ use std::ops::Add;
 pub const MAX_COUNT: usize = 32;
 
 // The first `count` bytes are the coefficients. The others are 0, so that vectors of different counts can be added
-// and multiplied as if the shorter one went on with zeros.
-#[derive(Clone, Copy)]
+// and multiplied as if the shorter one went on with zeros. An array and a count, since it is copied and nothing of it may ask for memory.
+#[derive(Clone, Copy, Debug, PartialEq, Eq)]
 pub struct Vector {
     bytes: [u8; MAX_COUNT],
     count: u8,
@@ -50,11 +50,18 @@ impl Vector {
         self.count as usize
     }
 
+    fn coefficients(&self) -> &[u8]
+        ensures value { result.now ≡ take self.now.count self.now.bytes }
+        ensures count { length result.now ≡ self.now.count }
+    {
+        &self.bytes[..self.count()]
+    }
+
     // The coefficient at `i`, and 0 past the last one.
     pub fn at(self, i: usize) -> u8
         ensures { result ≡ slice_index self.bytes i }
     {
-        if i < MAX_COUNT { self.bytes[i] } else { 0 }
+        self.bytes.get(i).copied().unwrap_or(0)
     }
 
     // The sum, with as many coefficients as the longer one has.
@@ -63,8 +70,9 @@ impl Vector {
         ensures bytes { SumOf self.bytes other.bytes result.bytes }
     {
         let mut bytes = self.bytes;
-        for i in 0..MAX_COUNT {
-            bytes[i] ^= other.bytes[i];
+        // By place, as in `add_multiple`.
+        for (i, byte) in other.bytes.iter().enumerate() {
+            bytes[i] ^= *byte;
         }
         Vector {
             bytes,
@@ -78,8 +86,8 @@ impl Vector {
         ensures bytes { MultipleOf factor self.bytes result.bytes }
     {
         let mut bytes = self.bytes;
-        for i in 0..MAX_COUNT {
-            bytes[i] = mul(factor, bytes[i]);
+        for byte in bytes.iter_mut() {
+            *byte = mul(factor, *byte);
         }
         Vector {
             bytes,
@@ -92,8 +100,8 @@ impl Vector {
         ensures { result ≡ dot_of (min self.count other.count) self.bytes other.bytes }
     {
         let mut total = 0;
-        for i in 0..self.count().min(other.count()) {
-            total ^= mul(self.bytes[i], other.bytes[i]);
+        for (a, b) in self.coefficients().iter().zip(other.coefficients()) {
+            total ^= mul(*a, *b);
         }
         total
     }

@@ -1,9 +1,11 @@
 -- Columns of numbers that were read from bytes: they have the properties that the judged bytes have.
-use Rattle.std.proofs.Common.{◌≡◌, ℕ, ◌+◌, ◌*◌, ◌<◌, true, List, [], ◌∷◌, map, length, get_or, sym, refl, ap, ◌∙◌, arith}
+use Rattle.std.proofs.Common.{◌≡◌, ℕ, ◌+◌, ◌*◌, ◌<◌, true, List, [], ◌∷◌, map, length, get_or, sym, refl, ap, ap₂, ◌∙◌, arith}
 use Rattle.std.specs.List.{range_with_len}
 use Rattle.std.proofs.lemmas.List.FromFn.{length-map-range_with_len, get_or-map-range_with_len}
-use Rattle.network.specs.Network.{paired, Within, Apart, InOrder, Fed, Placed, Rising}
-use Rattle.network.specs.Format.{nodes_in, links_in, from_in, to_in, link_in, rate_in, receivers_in, receiver_in, net_in, among, previous}
+use Rattle.network.specs.Network.{Link, Within, Apart, InOrder, Fed, Placed, Rising}
+use Rattle.network.specs.Links.{link_of, links_of}
+use Rattle.network.specs.declared.net.Link.{Link as Joined}
+use Rattle.network.specs.Format.{nodes_in, links_in, from_in, to_in, receivers_in, receiver_in, among, previous}
 use Rattle.network.proofs.Items.{Good, among-at, among-found, each-link, links-within, links-apart, links-in-order, fed-each, each-receiver, above-previous, receivers-rise}
 use Rattle.network.proofs.Judged.{Judged}
 
@@ -66,16 +68,14 @@ module _ (bs : List ℕ) (j : Judged bs) where
   pub rising-in : Rising (receivers_in bs (links_in bs)) (receiver_in bs (links_in bs))
   rising-in = receivers-rise (receivers_in bs (links_in bs)) (receiver_in bs (links_in bs)) (λ i h. (receiver-in i h).1)
 
-pub paired-columns : (f t : ℕ → ℕ) (xs : List ℕ) → paired (map f xs) (map t xs) ≡ map (λ k. record { from = f k; to = t k }) xs
-unfolding paired
-paired-columns f t [] = refl
-paired-columns f t (x ∷ xs) = ap (λ l. record { from = f x; to = t x } ∷ l) (paired-columns f t xs)
+-- the links that were read stand for those in the bytes
+pub links-read : (f : ℕ → Joined) (g : ℕ → Link) → ((k : ℕ) → link_of (f k) ≡ g k) → (xs : List ℕ) → links_of (map f xs) ≡ map g xs
+links-read f g e [] = refl
+links-read f g e (x ∷ xs) = ap₂ (λ y ys. y ∷ ys) (e x) (links-read f g e xs)
 
--- the net that columns, counts and the rate make up is the one in the bytes
-pub net-of : (bs : List ℕ) (nodes n rate r : ℕ) (fs ts rs : List ℕ) → nodes ≡ nodes_in bs → n ≡ links_in bs → rate ≡ rate_in bs (links_in bs) → r ≡ receivers_in bs (links_in bs)
-    → fs ≡ map (from_in bs) (range_with_len 0 n) → ts ≡ map (to_in bs) (range_with_len 0 n) → rs ≡ map (receiver_in bs (links_in bs)) (range_with_len 0 r)
-    → record { network = record { nodes = nodes; links = paired fs ts }; rate = rate; receivers = rs } ≡ net_in bs
-unfolding net_in
-net-of bs nodes n rate r fs ts rs a b c d f t p =
-    let links : paired fs ts ≡ map (link_in bs) (range_with_len 0 (links_in bs)) = rw (f, t, b) (paired-columns (from_in bs) (to_in bs) (range_with_len 0 (links_in bs))) in
-    rw (a, links, c, p, d)
+module _ (bs : List ℕ) (n : ℕ) (ls : List Joined) (e : ls ≡ map (λ k. record { from = from_in bs k; to = to_in bs k }) (range_with_len 0 n)) where
+  pub length-read : length ls ≡ n
+  length-read = ap length e ∙ length-map-range_with_len (λ k. record { from = from_in bs k; to = to_in bs k }) 0 n
+
+  pub read-at : (k : ℕ) → k < n → get_or ls k (record { from = 0; to = 0 }) ≡ record { from = from_in bs k; to = to_in bs k }
+  read-at k h = ap (λ l. get_or l k (record { from = 0; to = 0 })) e ∙ get_or-map-range_with_len _ 0 n k k (record { from = 0; to = 0 }) h (omega arith)

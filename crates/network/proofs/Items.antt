@@ -1,6 +1,8 @@
 -- What the tests of links and receivers say: each passes just where the rule in words holds.
-use Rattle.std.proofs.Common.{◌≡◌, ℕ, zero, suc, ◌+◌, ◌*◌, ◌<◌, ◌≤◌, Bool, true, false, not, ◌&&◌, eqb, ◌⊎◌, sym, refl, ap, ◌∙◌, inl, inr, add-one, arith}
-use Rattle.std.proofs.lemmas.Bool.{eqb-true, eq-eqb, or_cases, or_parts, or_from, or_left, or_right, both_ways, cases_Bool, cases_eq, cases_lt}
+use Rattle.std.proofs.Common.{◌≡◌, ℕ, zero, suc, ◌+◌, ◌*◌, ◌<◌, ◌≤◌, Bool, true, false, not, ◌&&◌, ◌||◌, ◌-◌, eqb, ◌⊎◌, sym, refl, ap, ◌∙◌, inl, inr, add-one, arith}
+use Rattle.std.specs.List.{range_with_len, list_any}
+use Rattle.std.proofs.Math.Bool.{or_assoc}
+use Rattle.std.proofs.lemmas.Bool.{eqb-true, eq-eqb, ne_eqb, or_cases, or_parts, or_from, or_left, or_right, both_ways, cases_Bool, cases_eq, cases_lt}
 use Rattle.std.proofs.lemmas.Bool.Decides.{nat_tests}
 use Rattle.network.specs.Network.{Within, Apart, InOrder, Placed, Rising}
 use Rattle.octets.specs.Reading.{fine, item}
@@ -141,6 +143,21 @@ unfolding unfed
 same-unfed left entered left' entered' zero e f = refl
 same-unfed left entered left' entered' (suc p) e f =
     rw (same-unfed left entered left' entered' p (λ q h. e q (omega arith)) (λ q h. f q (omega arith)), e p (omega arith), f p (omega arith))
+
+-- the same, as a search over the nodes but the source
+any-more : (f : ℕ → Bool) (a n j : ℕ) → a + n ≡ j → list_any f (range_with_len a (suc n)) ≡ list_any f (range_with_len a n) || f j
+any-more f a zero j e = rw (sym e) (grind (arith, nat_tests))
+any-more f a (suc n) j e = ap (λ b. f a || b) (any-more f (a + 1) n j (omega arith)) ∙ sym (or_assoc (f a) (list_any f (range_with_len (a + 1) n)) (f j))
+
+unfed-any : (left entered : ℕ → Bool) (n : ℕ) → unfed left entered (suc n) ≡ list_any (λ p. left p && not (entered p)) (range_with_len 1 n)
+unfolding unfed
+unfed-any left entered zero = refl
+unfed-any left entered (suc n) =
+    rw (ne_eqb (suc n) 0 (λ z. omega arith)) (ap (λ b. b || (left (suc n) && not (entered (suc n)))) (unfed-any left entered n)
+    ∙ sym (any-more (λ p. left p && not (entered p)) 1 n (suc n) (omega arith)))
+
+pub unfed_any : (left entered : ℕ → Bool) (n : ℕ) → 1 ≤ n → unfed left entered n ≡ list_any (λ p. left p && not (entered p)) (range_with_len 1 (n - 1))
+unfed_any left entered n h = ap (unfed left entered) (omega arith) ∙ unfed-any left entered (n - 1)
 
 -- RECEIVERS
 

@@ -1,12 +1,16 @@
 -- What the parts of the reader tell, put together to what the whole tells.
-use Rattle.std.proofs.Common.{◌≡◌, ℕ, List, Err, sym, refl, ap, ◌∙◌}
+use Rattle.std.proofs.Common.{◌≡◌, ℕ, ◌<◌, List, Option, Some, None, Result, Ok, Err, MatchOption, MatchResult, sym, refl, ap, subst, ◌∙◌}
+use Rattle.std.specs.Option.{ok_or}
 use Rattle.octets.specs.Reading.{Reading, got, fault, fine, next}
 use Rattle.network.specs.Format.{head_item, link_items, links_end, counts_item, receiver_items, end_item, fault_in}
 use Rattle.network.specs.Faults.{number}
-use Rattle.network.specs.Values.{Answers, Settled, Refuses}
+use Rattle.network.specs.Values.{Answers, Settled, Refuses, Names}
+use Rattle.network.specs.declared.fault.Fault.{Fault}
+use Rattle.network.specs.declared.fault.Fault.TheVariants.{Malformed}
 use Rattle.network.specs.declared.fault.ReadError.{ReadError}
 use Rattle.network.specs.declared.fault.ReadError.TheVariants.{Faulty, Memory}
 use Rattle.network.proofs.Locality.{local}
+use Rattle.network.proofs.Names.{some_number}
 
 -- a fault of the first part
 refuses-first : (a b : Reading (Unit {0})) (e : ReadError) → Refuses a e → Refuses (next a b) e
@@ -58,3 +62,20 @@ refusal-answers bs Memory t = absurd t
 pub refusal-settled : (bs : List ℕ) (e : ReadError) → Refuses (fault_in bs) e → Settled bs e
 refusal-settled bs (Faulty f at) t = local bs (number f) at (rw t)
 refusal-settled bs Memory t = absurd t
+
+-- what a part tells of an item that is cut short
+pub short-told : {A : Type 0} (v : Reading (Unit {0})) (at : ℕ) (o : Option A) (Q : Type 0) (P : A → Type 0) (e : ReadError)
+    → MatchOption o Q P → ok_or o (Faulty Malformed at) ≡ Err e → (Q → v ≡ fault 1 at) → Refuses v e
+short-told v at None Q P e m r h = let is : Faulty Malformed at ≡ e = cc in subst (Refuses v) is (h m)
+short-told v at (Some x) Q P e m r h = absurd (cc)
+
+-- what a part tells of an item with a fault of its own
+pub judged-told : (v : Reading (Unit {0})) (n at : ℕ) (r : Result (Unit {0}) Fault) (e : ReadError) (P : Unit {0} → Type 0) (Made : Fault → Type 0)
+    → Names n r → MatchResult r P Made → ((x : Unit {0}) → P x → ⊥) → ((f : Fault) → Made f → e ≡ Faulty f at) → ((told : ℕ) → n ≡ told → 0 < told → v ≡ fault told at) → Refuses v e
+judged-told v n at (Ok x) e P Made m r never is h = absurd (never x r)
+judged-told v n at (Err f) e P Made m r never is h = subst (Refuses v) (sym (is f r)) (h (number f) m (some_number f))
+
+-- an item of which no fault was told has none
+pub judged-fine : (n : ℕ) (r : Result (Unit {0}) Fault) (P : Unit {0} → Type 0) → Names n r → MatchResult r P (λ f. ⊥) → n ≡ 0
+judged-fine n (Ok x) P m r = m
+judged-fine n (Err f) P m r = absurd r

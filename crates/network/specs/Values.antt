@@ -5,19 +5,20 @@
 --   Refuses, Tells   what a part of the reader tells of its items
 --   Names      what it tells of the faults of one item
 -- Assumes nothing.
-use Rattle.std.specs.Prelude.{◌≡◌, ℕ, List, Some, None, Ok, Err, vec_items, Option, Result}
-use Rattle.network.specs.Network.{Network, Multicast, paired}
+use Rattle.std.specs.Prelude.{◌≡◌, ℕ, List, Ok, Err, vec_items, Result}
+use Rattle.network.specs.Network.{Network, Multicast}
+use Rattle.network.specs.Links.{links_of}
 use Rattle.octets.specs.Reading.{Reading, got, fault, fine}
 use Rattle.network.specs.Format.{read_net, Local}
 use Rattle.network.specs.Faults.{number}
-use Rattle.network.specs.declared.net.Network.{Network as Columns}
+use Rattle.network.specs.declared.net.Network.{Network as Graph}
 use Rattle.network.specs.declared.net.Multicast.{Multicast as Net}
 use Rattle.network.specs.declared.fault.Fault.{Fault}
 use Rattle.network.specs.declared.fault.ReadError.{ReadError}
 use Rattle.network.specs.declared.fault.ReadError.TheVariants.{Faulty, Memory}
 
-abbrev pub graph : Columns → Network
-graph z = record { nodes = z.nodes; links = paired (vec_items z.from) (vec_items z.to) }
+abbrev pub graph : Graph → Network
+graph z = record { nodes = z.nodes; links = links_of (vec_items z.links) }
 
 abbrev pub value : Net → Multicast
 value m = record { network = graph m.network; rate = m.rate; receivers = vec_items m.receivers }
@@ -41,6 +42,6 @@ Tells v (Ok x) = v ≡ fine
 Tells v (Err e) = Refuses v e
 
 -- 0 stands for no fault
-abbrev pub Names : ℕ → Option Fault → Type 0
-Names n None = n ≡ 0
-Names n (Some f) = n ≡ number f
+abbrev pub Names : ℕ → Result (Unit {0}) Fault → Type 0
+Names n (Ok x) = n ≡ 0
+Names n (Err f) = n ≡ number f

@@ -1,24 +1,29 @@
 // What can be wrong with the bytes of a net.
-ghost use Rattle.std.specs.Prelude.{◌≡◌};
-ghost use Rattle.network.specs.Faults.{number, text};
+ghost use Rattle.std.specs.Prelude.{◌≡◌, Some};
+ghost use Rattle.network.specs.Faults.{number, text, message};
+ghost use Rattle.network.specs.declared.fault.ReadError.TheVariants.{Memory};
 
-#[derive(Clone, Copy)]
+use std::alloc::AllocError;
+use std::error::Error;
+use std::fmt;
+
+#[derive(Clone, Copy, Debug, PartialEq, Eq)]
 pub enum Fault {
     // an unknown kind, an item that is cut short, or bytes left over
-    Malformed,
+    Malformed = 1,
     // a count outside its limits, or a node that is not there
-    OutOfRange,
+    OutOfRange = 2,
     // a link into the source, or from a node to itself
-    Misdirected,
+    Misdirected = 3,
     // a link into a node behind one out of it
-    OutOfOrder,
+    OutOfOrder = 4,
     // receivers that do not rise, or the source among them
-    Receivers,
+    Receivers = 5,
     // a link out of a node, not the source, that no link comes into
-    Unfed,
+    Unfed = 10,
 }
 
-#[derive(Clone, Copy)]
+#[derive(Clone, Copy, Debug, PartialEq, Eq)]
 pub enum ReadError {
     // the fault, and the byte at which the item that has it begins
     Faulty(Fault, usize),
@@ -29,14 +34,7 @@ impl Fault {
     pub fn number(self) -> u8
         ensures { result ≡ number self }
     {
-        match self {
-            Fault::Malformed => 1,
-            Fault::OutOfRange => 2,
-            Fault::Misdirected => 3,
-            Fault::OutOfOrder => 4,
-            Fault::Receivers => 5,
-            Fault::Unfed => 10,
-        }
+        self as u8
     }
 
     // The fault in the words of the format, where nodes are places, links lines and receivers listeners.
@@ -51,5 +49,38 @@ impl Fault {
             Fault::Receivers => "listeners not rising, or the source among them",
             Fault::Unfed => "a line out of a place, not the source, that no line comes into",
         }
+    }
+}
+
+impl fmt::Display for Fault {
+    ghost output = { λ fault. Some (text fault) };
+
+    fn fmt<W: fmt::Write>(&self, f: &mut fmt::Formatter<W>) -> fmt::Result {
+        f.write_str(self.text())
+    }
+}
+
+impl Error for Fault {}
+
+impl fmt::Display for ReadError {
+    ghost output = { λ error. Some (message error) };
+
+    fn fmt<W: fmt::Write>(&self, f: &mut fmt::Formatter<W>) -> fmt::Result {
+        match self {
+            ReadError::Faulty(fault, at) => {
+                write!(f, "fault {} at byte {at}: {fault}", fault.number())
+            }
+            ReadError::Memory => write!(f, "not enough memory"),
+        }
+    }
+}
+
+impl Error for ReadError {}
+
+impl From<AllocError> for ReadError {
+    ghost from_gives = { λ _ e. e ≡ Memory };
+
+    fn from(_: AllocError) -> Self {
+        Self::Memory
     }
 }

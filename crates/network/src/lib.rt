@@ -7,6 +7,6 @@ mod reader;
 mod writer;
 
 pub use fault::{Fault, ReadError};
-pub use net::{Multicast, Network};
+pub use net::{Link, Multicast, Network};
 pub use reader::read;
 pub use writer::write;

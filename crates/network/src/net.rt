@@ -1,19 +1,25 @@
 // Networks. What holds of every accepted one is an invariant of the type: whoever makes a value proves it, so the fields are open to all.
 ghost use Rattle.std.specs.Prelude.{◌≡◌, ◌<◌, vec_len, slice_index};
 ghost use Rattle.network.specs.Network.{Limits, Within, Apart, InOrder, Fed, Rates, Placed, Rising};
+ghost use Rattle.network.specs.Links.{begin_of, end_of};
 
-// Nodes are numbered from 0, which is the source. Link k goes from node from[k] to node to[k].
+// Nodes are numbered from 0, which is the source.
+#[derive(Clone, Copy, Debug, PartialEq, Eq)]
+pub struct Link {
+    pub from: u16,
+    pub to: u16,
+}
+
+// Links are numbered from 0 in the order of the list.
 #[derive(Drop)]
 pub struct Network {
     pub nodes: u16,
-    pub from: Vec<u16>,
-    pub to: Vec<u16>,
-    ghost level: { vec_len to ≡ vec_len from },
-    ghost limits: { Limits nodes (vec_len from) },
-    ghost within: { Within nodes (vec_len from) (λ k. slice_index from.items k) (λ k. slice_index to.items k) },
-    ghost apart: { Apart (vec_len from) (λ k. slice_index from.items k) (λ k. slice_index to.items k) },
-    ghost order: { InOrder (vec_len from) (λ k. slice_index from.items k) (λ k. slice_index to.items k) },
-    ghost fed: { Fed (vec_len from) (λ k. slice_index from.items k) (λ k. slice_index to.items k) },
+    pub links: Vec<Link>,
+    ghost limits: { Limits nodes (vec_len links) },
+    ghost within: { Within nodes (vec_len links) (begin_of links.items) (end_of links.items) },
+    ghost apart: { Apart (vec_len links) (begin_of links.items) (end_of links.items) },
+    ghost order: { InOrder (vec_len links) (begin_of links.items) (end_of links.items) },
+    ghost fed: { Fed (vec_len links) (begin_of links.items) (end_of links.items) },
 }
 
 // The source sends `rate` packets in each round to every receiver.

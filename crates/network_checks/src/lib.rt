@@ -319,8 +319,8 @@ mod tests {
         match network::read(heap, &bytes) {
             Ok(net) => {
                 assert_eq!(rt; net.network.nodes, 256);
-                assert_eq!(rt; net.network.to.len(), 1024);
-                assert_eq!(rt; net.network.to.last().copied(), Some(4));
+                assert_eq!(rt; net.network.links.len(), 1024);
+                assert_eq!(rt; net.network.links.last().map(|link| link.to), Some(4));
                 assert_eq!(rt; net.rate, 32);
                 assert_eq!(rt; net.receivers.last().copied(), Some(64));
                 assert!(rt; network::write(heap, &net)? == bytes);
@@ -332,6 +332,22 @@ mod tests {
         Ok(())
     }
 
+    // 1-2, 0-1: the line into 1 stands behind the one out of it.
+    #[test]
+    fn printed(rt: HostRuntime) -> Result<(), Fail> {
+        let heap = rt.alloc();
+        let bytes = [1, 0, 3, 0, 2, 0, 1, 0, 2, 0, 0, 0, 1, 1, 1, 0, 2];
+        let Err(error) = network::read(heap, &bytes) else {
+            return Err(Fail::new("accepted"));
+        };
+        assert!(rt;
+            error.to_string(heap)?.as_str()
+                == "fault 4 at byte 9: a line into a place after one out of it"
+        );
+        assert!(rt; ReadError::Memory.to_string(heap)?.as_str() == "not enough memory");
+        Ok(())
+    }
+
     #[test]
     fn nine_lines(rt: HostRuntime) -> Result<(), Fail> {
         let heap = rt.alloc();
@@ -339,8 +355,15 @@ mod tests {
             return Err(Fail::new("refused"));
         };
         assert_eq!(rt; net.network.nodes, 7);
-        assert!(rt; net.network.from.as_slice() == [0, 0, 1, 1, 2, 2, 3, 4, 4].as_slice());
-        assert!(rt; net.network.to.as_slice() == [1, 2, 3, 5, 3, 6, 4, 5, 6].as_slice());
+        let from: Vec<u16> = net
+            .network
+            .links
+            .iter()
+            .map(|link| link.from)
+            .collect(heap)?;
+        let to: Vec<u16> = net.network.links.iter().map(|link| link.to).collect(heap)?;
+        assert!(rt; from.as_slice() == [0, 0, 1, 1, 2, 2, 3, 4, 4].as_slice());
+        assert!(rt; to.as_slice() == [1, 2, 3, 5, 3, 6, 4, 5, 6].as_slice());
         assert_eq!(rt; net.rate, 2);
         assert!(rt; net.receivers.as_slice() == [5, 6].as_slice());
         assert!(rt; network::write(heap, &net)?.as_slice() == NINE.as_slice());

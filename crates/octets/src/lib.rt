@@ -10,25 +10,31 @@ use std::alloc::AllocError;
 pub fn word(high: u8, low: u8) -> u16
     ensures { result ≡ 256 * high + low }
 {
-    u16::from(high) * 256 + u16::from(low)
+    u16::from_be_bytes([high, low])
 }
 
 // The number in the two bytes from `at` on, if they are there.
 pub fn word_at(bytes: &[u8], at: usize) -> Option<u16>
     ensures { MatchOption result (length bytes.now < at + 2) (λ x. (at + 2 ≤ length bytes.now) × (x ≡ word_at bytes.now at)) }
 {
-    if at >= bytes.len() || bytes.len() - at < 2 {
+    let [high, low, ..] = bytes.get(at..)? else {
         return None;
-    }
-    Some(word(bytes[at], bytes[at + 1]))
+    };
+    Some(word(*high, *low))
+}
+
+// The number in the two bytes from `at` on, which are there.
+pub fn read_word(bytes: &[u8], at: usize) -> u16
+    requires { at + 2 ≤ length bytes.now }
+    ensures { result ≡ word_at bytes.now at }
+{
+    word(bytes[at], bytes[at + 1])
 }
 
 pub fn put_word(out: &mut Vec<u8>, x: u16) -> Result<(), AllocError>
     ensures { OnOk result (out.new.items ≡ out.old.items ++ word_bytes x) }
 {
-    out.push((x / 256) as u8)?;
-    out.push((x % 256) as u8)?;
-    Ok(())
+    out.extend_from_slice(&x.to_be_bytes())
 }
 
 pub fn put_words(out: &mut Vec<u8>, words: &[u16]) -> Result<(), AllocError>

@@ -1,9 +1,10 @@
 -- What the program makes is what the definition has: the receivers with their paths, the readers, the flags of a cut.
-use Rattle.std.proofs.Common.{◌≡◌, ℕ, suc, ◌<◌, Bool, false, List, [], ◌∷◌, map, length, get_or, vec_items, sym, refl, ap, ◌∙◌, subst, ap₂, arith}
+use Rattle.std.proofs.Common.{◌≡◌, ℕ, suc, ◌<◌, ◌≢◌, Bool, false, List, [], ◌∷◌, map, length, get_or, vec_items, sym, refl, ap, ◌∙◌, subst, ap₂, arith}
 use Rattle.std.proofs.lemmas.List.{ext_get_or}
 use Rattle.linear.specs.Vectors.{table}
 use Rattle.linear.proofs.Lists.{get_d-table, length-table}
-use Rattle.coding_theory.specs.Paths.{none, and, Aim}
+use Rattle.std.proofs.lemmas.List.Elements.{All-nil, All-cons}
+use Rattle.coding_theory.specs.Paths.{Aim}
 use Rattle.coding_theory.specs.Coding.{Receiver, current_at}
 use Rattle.coding.specs.Meaning.{Away, Decodes}
 use Rattle.wire.specs.declared.plan.Decoder.{Decoder}
@@ -18,8 +19,8 @@ use Rattle.planner_theory.proofs.Routes.{Route, routes}
 use Rattle.planner_theory.proofs.Main.{main-promise}
 
 pub away : (aims : List Aim) → ((i : ℕ) → i < length (map (λ a. a.node) aims) → 0 < get_or (map (λ a. a.node) aims) i 0) → Away aims
-away [] h = none
-away (a ∷ aims) h = and (λ (e : a.node ≡ 0). let z = h 0 (omega arith) in omega arith) (away aims (λ i l. h (suc i) (omega arith)))
+away [] h = All-nil (λ a. a.node ≢ 0)
+away (a ∷ aims) h = All-cons (λ a. a.node ≢ 0) a aims (λ (e : a.node ≡ 0). let z = h 0 (omega arith) in omega arith) (away aims (λ i l. h (suc i) (omega arith)))
 
 same-reader : (h : ℕ) (d : Decoder) (r : Receiver) → Decodes h d r → reader d ≡ reader_of h r
 same-reader h d r s =

@@ -22,16 +22,15 @@ pub fn make_plan_with_routes(heap: Global, net: &Multicast) -> Result<(Routes, P
     ensures promise { IfOk result (λ x. Main (value net.now) (plan x.1)) }
     ensures fits { IfOk result (λ x. Fits (value net.now) (plan x.1)) }
 {
-    match find_routes(heap, net)? {
-        Routes::Paths(aims) => {
-            let coded = code(heap, &net.network, net.rate, &aims)?;
-            Ok((Routes::Paths(aims), Plan::Served(coded)))
-        }
-        Routes::Cut { receiver, side } => {
-            let routes = Routes::Cut { receiver, side };
-            Ok((routes, Plan::Unserved { receiver, side }))
-        }
-    }
+    let routes = find_routes(heap, net)?;
+    let plan = match &routes {
+        Routes::Paths(aims) => Plan::Served(code(heap, &net.network, net.rate, aims)?),
+        Routes::Cut { receiver, side } => Plan::Unserved {
+            receiver: *receiver,
+            side: *side,
+        },
+    };
+    Ok((routes, plan))
 }
 
 // The plan alone.

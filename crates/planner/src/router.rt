@@ -6,7 +6,7 @@ ghost use Rattle.planner.specs.Values.{Finds, Serving};
 
 use crate::routes::Routes;
 use coding::Aim;
-use flow::{Found, paths_or_cut};
+use flow::{Found, find};
 use flow_search::Adjacency;
 use network::Multicast;
 use std::alloc::{AllocError, Global};
@@ -18,12 +18,8 @@ pub fn find_routes(heap: Global, net: &Multicast) -> Result<Routes, AllocError>
 {
     let adjacency = Adjacency::of(heap, &net.network)?;
     let mut aims = Vec::new(heap);
-    for i in 0..net.receivers.len() {
-        let node = net.receivers[i];
-        let Ok(found) = paths_or_cut(heap, &net.network, &adjacency, node, net.rate) else {
-            return Err(AllocError);
-        };
-        match found {
+    for &node in &net.receivers {
+        match find(heap, &adjacency, node, net.rate)? {
             Found::Paths(paths) => aims.push(Aim { node, paths })?,
             Found::Cut(side) => {
                 return Ok(Routes::Cut {

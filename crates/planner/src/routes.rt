@@ -1,4 +1,4 @@
-// Paths for all receivers.
+// What is found for the receivers. A cut is an answer as paths are, so this is no `Result`.
 use coding::Aim;
 
 #[derive(Drop)]

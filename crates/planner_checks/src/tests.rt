@@ -1,8 +1,9 @@
 // Nets with their plans as the reference program tells them: python3 tools/reference/vectors.py.
-ghost use Rattle.std.specs.Prelude.{◌≡◌, ◌+◌, ◌-◌, ◌*◌, ◌/◌, ◌<◌, ◌≤◌, length, IfSome, IfOk, vec_len};
+ghost use Rattle.std.specs.Prelude.{◌≡◌, ◌<◌, length};
 
 use std::alloc::{AllocError, Global};
 use std::test::Fail;
+use wire::Fitted;
 
 // The bytes of a net and of its plan, two hexadecimal digits to a byte.
 struct Case {
@@ -88,48 +89,25 @@ const CASES: [Case; 15] = [
     },
 ];
 
-fn digit(c: u8) -> Option<u8>
-    ensures { IfSome result (λ d. d < 16) }
-{
-    match c {
-        b'0'..=b'9' => Some(c - b'0'),
-        b'a'..=b'f' => Some(c - b'a' + 10),
-        _ => None,
-    }
-}
-
-// The bytes that the digits stand for.
-fn bytes_of(heap: Global, digits: &str) -> Result<Vec<u8>, Fail>
-    ensures { IfOk result (λ v. vec_len v ≡ length digits.now / 2) }
-{
-    let digits = digits.as_bytes();
-    let mut bytes = Vec::new(heap);
-    for i in 0..digits.len() / 2 {
-        let (Some(high), Some(low)) = (digit(digits[2 * i]), digit(digits[2 * i + 1])) else {
-            return Err(Fail::new("not a digit"));
-        };
-        bytes.push(16 * high + low)?;
-    }
-    Ok(bytes)
-}
-
 // The bytes of the plan of a net, by its bytes.
 fn plan_of(heap: Global, net: &[u8]) -> Result<Vec<u8>, Fail> {
-    let Ok(net) = network::read(heap, net) else {
-        return Err(Fail::new("not a net"));
-    };
+    let net = network::read(heap, net)?;
     let plan = planner::make_plan(heap, &net)?;
-    Ok(wire::write(heap, &net, &plan)?)
+    let fitted = Fitted {
+        net: &net,
+        plan: &plan,
+    };
+    Ok(wire::write(heap, &fitted)?)
 }
 
 #[test]
 fn plans(rt: HostRuntime) -> Result<(), Fail> {
     let heap = rt.alloc();
-    for case in CASES.iter() {
-        let net = bytes_of(heap, case.net)?;
+    for case in &CASES {
+        let net = hex::decode(heap, case.net)?;
         assert_eq!(rt;
             plan_of(heap, &net)?,
-            bytes_of(heap, case.plan)?,
+            hex::decode(heap, case.plan)?,
             "{}",
             case.net
         );
@@ -228,7 +206,7 @@ fn net_of(heap: Global, rule: Rule) -> Result<Vec<u8>, AllocError> {
 #[test]
 fn largest(rt: HostRuntime) -> Result<(), Fail> {
     let heap = rt.alloc();
-    for rule in RULES.iter() {
+    for rule in &RULES {
         let net = net_of(heap, *rule)?;
         assert_eq!(rt; sum(&net), rule.net);
         assert_eq!(rt; sum(&plan_of(heap, &net)?), rule.plan);

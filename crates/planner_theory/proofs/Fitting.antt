@@ -8,7 +8,9 @@ use Rattle.linear.specs.Vectors.{row, table}
 use Rattle.linear.proofs.Lists.{get_d-table, length-table}
 use Rattle.network.specs.Network.{Link, Network, Multicast, link_at, Sound, Accepted}
 use Rattle.wire.specs.Plan.{Reader, served, feeding, hand_at, hands, Comes, Matched, Suits, Fits}
-use Rattle.coding_theory.specs.Paths.{Each, none, and, Aim}
+use Rattle.std.specs.List.{All}
+use Rattle.std.proofs.lemmas.List.Elements.{All-head, All-tail}
+use Rattle.coding_theory.specs.Paths.{Aim}
 use Rattle.coding_theory.specs.Coding.{Carrier, incoming, at_hand, message, Receiver, Coded, code}
 use Rattle.coding_theory.specs.Promise.{Reader as Reading, Served, OnlyOnes}
 use Rattle.coding_theory.proofs.Served.{all-at-once}
@@ -94,10 +96,13 @@ module _ (m : Multicast) (ok : Accepted m) (aims : List Aim) (nodes : map (λ a.
         long = All-from_get_or (λ q. length q ≡ h) rd.rows [] (λ k l. t.square.long k (omega (arith, t.square.many)));
       }
 
-  all-suit : (rs : List Receiver) → Each (Reading byte_field m.network m.rate c) rs → ((i : ℕ) → i < length (map (λ r. r.aim.node) rs) → 0 < get_or (map (λ r. r.aim.node) rs) i 0)
+  all-suit : (rs : List Receiver) → All (Reading byte_field m.network m.rate c) rs → ((i : ℕ) → i < length (map (λ r. r.aim.node) rs) → 0 < get_or (map (λ r. r.aim.node) rs) i 0)
       → Matched (Suits links m.rate) (map (λ r. r.aim.node) rs) (map (reader_of m.rate) rs)
-  all-suit [] none away = tt
-  all-suit (r ∷ rs) (and t ts) away = (suits r (away 0 (omega arith)) t, all-suit rs ts (λ i l. away (suc i) (omega arith)))
+  all-suit [] a away = tt
+  all-suit (r ∷ rs) a away = (
+    suits r (away 0 (omega arith)) (All-head (Reading byte_field m.network m.rate c) r rs a),
+    all-suit rs (All-tail (Reading byte_field m.network m.rate c) r rs a) (λ i l. away (suc i) (omega arith)),
+  )
 
   map-map : {A B C : Type 0} (f : A → B) (g : B → C) (xs : List A) → map g (map f xs) ≡ map (λ x. g (f x)) xs
   map-map f g [] = refl

@@ -4,15 +4,11 @@ use Rattle.std.proofs.lemmas.Bool.{both_ways, eqb-true, or_cases, or_left, or_ri
 use Rattle.linear.specs.Vectors.{row}
 use Rattle.network.specs.Network.{Link, Network}
 use Rattle.flow_theory.specs.Promise.{Leads, AllLead, joined, Absent, Different, Paths}
-use Rattle.coding_theory.specs.Paths.{is_on, IsPath, Given}
+use Rattle.coding_theory.specs.Paths.{is_on, Given}
 
-is-path : (ls : List Link) (q p : ℕ) (ks : List ℕ) → Leads ls q p ks → IsPath ls q p ks
-is-path ls q p [] e = e
-is-path ls q p (k ∷ ks) l = (l.0, l.1, is-path ls _ p ks l.2)
-
-all-paths : (ls : List Link) (q p : ℕ) (ws : List (List ℕ)) → AllLead ls q p ws → (j : ℕ) → j < length ws → IsPath ls q p (row ws j)
+all-paths : (ls : List Link) (q p : ℕ) (ws : List (List ℕ)) → AllLead ls q p ws → (j : ℕ) → j < length ws → Leads ls q p (row ws j)
 all-paths ls q p [] l j h = absurd (omega arith)
-all-paths ls q p (w ∷ ws) l zero h = is-path ls q p w l.0
+all-paths ls q p (w ∷ ws) l zero h = l.0
 all-paths ls q p (w ∷ ws) l (suc j) h = all-paths ls q p ws l.1 j (omega arith)
 
 -- a link that is on a list is not absent there

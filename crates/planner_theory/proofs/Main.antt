@@ -15,7 +15,7 @@ use Rattle.coding_theory.proofs.Served.{all-at-once}
 use Rattle.planner_theory.specs.Plan.{Routed, routed, stopped, route, reader_of, planned}
 use Rattle.planner_theory.specs.Promise.{on_links, reader_at, Serves, Main, MainPromise}
 use Rattle.planner_theory.proofs.Routes.{Route, routes}
-use Rattle.planner_theory.proofs.Readers.{each_at, packets-on-links, links-lead}
+use Rattle.planner_theory.proofs.Readers.{packets-on-links, links-lead}
 
 -- receivers that are served, by their places
 module _ (m : Multicast) (ok : Accepted m) (aims : List Aim) (nodes : map (λ a. a.node) aims ≡ m.receivers) (c : Coded) (s : Served byte_field m.network m.rate aims c) where
@@ -40,7 +40,7 @@ module _ (m : Multicast) (ok : Accepted m) (aims : List Aim) (nodes : map (λ a.
       ap (λ b. b.node) (sym a ∙ ap (λ as'. get_or as' i nobody.aim) s.all) ∙ sym n ∙ ap (λ ps. get_or ps i 0) nodes
 
   read_at : (i : ℕ) → i < length m.receivers → Reading byte_field m.network m.rate c (receiver_at i)
-  read_at i h = each_at (Reading byte_field m.network m.rate c) c.receivers s.readers i (omega (arith, many)) nobody
+  read_at i h = s.readers i nobody (omega (arith, many))
 
   reader-is : (i : ℕ) → i < length m.receivers → reader_at (map (reader_of m.rate) c.receivers) i ≡ reader_of m.rate (receiver_at i)
   reader-is i h = get_or-map (reader_of m.rate) c.receivers i nobody _ (omega (arith, many))

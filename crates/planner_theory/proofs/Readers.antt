@@ -1,19 +1,13 @@
 -- What a receiver reads at the end is on links: none of its packets is one of the message itself, since those are at hand at the source alone.
-use Rattle.std.proofs.Common.{◌≡◌, ℕ, zero, suc, ◌<◌, List, [], ◌∷◌, map, length, get_or, sym, refl, ap, ◌∙◌, ap₂, arith}
+use Rattle.std.proofs.Common.{◌≡◌, ℕ, zero, suc, ◌<◌, List, ◌∷◌, map, get_or, sym, refl, ap, ◌∙◌, ap₂, arith}
 use Rattle.linear.specs.Vectors.{row, table}
 use Rattle.linear.proofs.Lists.{get_d-table}
 use Rattle.network.specs.Network.{Link, link_at}
 use Rattle.network_cuts.specs.Scheme.{Packet}
-use Rattle.coding_theory.specs.Paths.{Each, and}
 use Rattle.coding_theory.specs.Coding.{Carrier, message, link, on_carrier, Receiver, current_at, packets}
 use Rattle.coding_theory.specs.Promise.{Ends}
 use Rattle.planner_theory.specs.Plan.{link_of, reader_of}
 use Rattle.planner_theory.specs.Promise.{on_links}
-
-pub each_at : {A : Type 0} (P : A → Type 0) (xs : List A) → Each P xs → (i : ℕ) → i < length xs → (d : A) → P (get_or xs i d)
-each_at P [] e i h d = absurd (omega arith)
-each_at P (x ∷ xs) (and p e) zero h d = p
-each_at P (x ∷ xs) (and p e) (suc i) h d = each_at P xs e i (omega arith) d
 
 map-table : {A B : Type 0} (f : A → B) (n : ℕ) (g : ℕ → A) → map f (table n g) ≡ table n (λ j. f (g j))
 unfolding table

@@ -3,8 +3,8 @@
 
 ghost use Rattle.std.specs.Prelude.{◌≡◌, ◌*◌, ◌<◌, length, vec_len};
 
-use console::{Stopped, read_net, read_plan, status, write_cut};
-use network::Multicast;
+use console::{OutOfMemory, Program, Stopped, status, write_cut};
+use gf_bytes::PACKET_LENGTH;
 use relay_console::fill;
 use relay_node::NodeError;
 use run::{Player, fill_up};
@@ -13,42 +13,28 @@ use std::io::{BufReader, BufWriter, Read, Write};
 use std::process::ExitCode;
 use std::time::Instant;
 use std::{env, io};
-use wire::Plan;
+use wire::{Fitted, Plan};
 
 // Messages are numbered up to 2^32 - 2.
 const MOST: u64 = 4294967295;
 
 // After a message, who of the listeners has all so far.
-fn mark(net: &Multicast, player: &Player, bytes: &[u8], has: &mut Vec<bool>)
-    requires nodes { vec_len player.now.nodes ≡ net.now.network.nodes }
+fn mark(player: &Player, bytes: &[u8], has: &mut [bool])
     requires played { 0 < player.now.round }
-    requires long { length bytes.now ≡ net.now.rate * 1024 }
-    requires all { vec_len has.old ≡ vec_len net.now.receivers }
-    ensures { vec_len has.new ≡ vec_len has.old }
+    requires long { length bytes.now ≡ player.now.net.now.rate * 1024 }
+    requires all { length has.old ≡ vec_len player.now.net.now.receivers }
 {
-    for i in 0..net.receivers.len() {
-        if !player.has(net, i, bytes) {
-            has[i] = false;
-        }
+    for (i, all) in has.iter_mut().enumerate() {
+        *all = *all && player.has(i, bytes);
     }
 }
 
-fn write_result<W: Write>(
-    out: &mut W,
-    net: &Multicast,
-    has: &[bool],
-    counts: &[u64],
-) -> io::Result<()> {
-    for i in 0..net.receivers.len() {
-        let listener = net.receivers[i];
-        if i < has.len() && has[i] {
-            writeln!(out, "listener {listener}: has it")?;
-        } else {
-            writeln!(out, "listener {listener}: has not")?;
-        }
+fn write_result<W: Write>(out: &mut W, player: &Player, has: &[bool]) -> io::Result<()> {
+    for (listener, all) in player.net.receivers.iter().zip(has) {
+        let word = if *all { "has it" } else { "has not" };
+        writeln!(out, "listener {listener}: {word}")?;
     }
-    for k in 0..counts.len() {
-        let count = counts[k];
+    for (k, count) in player.counts.iter().enumerate() {
         writeln!(out, "line {k}: {count}")?;
     }
     out.flush()
@@ -66,73 +52,56 @@ fn tell_progress(rt: &HostRuntime, since: Instant, round: u64) -> Result<Instant
     Ok(Instant::now(rt)?)
 }
 
-// Plays message after message, and answers the player at the end.
+// Plays message after message.
 fn play_all<R: Read>(
-    rt: &HostRuntime,
-    net: &Multicast,
-    start: Player,
+    program: Program,
+    player: &mut Player,
     path: &str,
     input: &mut R,
-    has: &mut Vec<bool>,
-) -> Result<Player, Stopped>
-    requires nodes { vec_len start.nodes ≡ net.now.network.nodes }
-    requires counts { vec_len start.counts ≡ vec_len net.now.network.from }
-    requires fresh { start.round ≡ 0 }
-    requires all { vec_len has.old ≡ vec_len net.now.receivers }
+    has: &mut [bool],
+) -> Result<(), Stopped>
+    requires fresh { player.old.round ≡ 0 }
+    requires all { length has.old ≡ vec_len player.old.net.now.receivers }
 {
-    let Ok(mut bytes) = vec![in rt.alloc(); 0u8; net.rate as usize * 1024] else {
-        eprintln!(rt; "play: not enough memory")?;
-        return Err(Stopped);
-    };
-    let mut player = start;
+    let rt = program.rt;
+    let length = player.net.rate as usize * PACKET_LENGTH;
+    let bytes = vec![in rt.alloc(); 0u8; length].map_err(OutOfMemory::from);
+    let mut bytes = program.or_end(bytes)?;
     let mut since = Instant::now(rt)?;
     for round in 0..MOST {
-        let count = match fill(input, &mut bytes) {
-            Ok(count) => count,
-            Err(e) => {
-                eprintln!(rt; "play: {path}: {e}")?;
-                return Err(Stopped);
-            }
-        };
+        let count = program.or_stop(path, fill(input, &mut bytes))?;
         if count == 0 {
-            return Ok(player);
+            return Ok(());
         }
         fill_up(&mut bytes, count);
-        player = player.play(net, &bytes);
-        mark(net, &player, &bytes, has);
+        player.play(&bytes);
+        mark(player, &bytes, has);
         since = tell_progress(rt, since, round)?;
     }
     if fill(input, &mut bytes)? == 0 {
-        return Ok(player);
+        return Ok(());
     }
     eprintln!(rt; "play: the message file is too long: there are {MOST} rounds at most")?;
     Err(Stopped)
 }
 
-fn play(rt: &HostRuntime, net: &Multicast, start: Player, path: &str) -> Result<(), Stopped>
-    requires nodes { vec_len start.nodes ≡ net.now.network.nodes }
-    requires counts { vec_len start.counts ≡ vec_len net.now.network.from }
-    requires fresh { start.round ≡ 0 }
+fn play(program: Program, mut player: Player, path: &str) -> Result<(), Stopped>
+    requires { player.round ≡ 0 }
 {
-    let file = match File::open(rt, path) {
-        Ok(file) => file,
-        Err(e) => {
-            eprintln!(rt; "play: {path}: {e}")?;
-            return Err(Stopped);
-        }
-    };
-    let Ok(mut has) = vec![in rt.alloc(); true; net.receivers.len()] else {
-        eprintln!(rt; "play: not enough memory")?;
-        return Err(Stopped);
-    };
+    let rt = program.rt;
+    let file = program.or_stop(path, File::open(rt, path))?;
+    // beside the net's receivers, since the net is lent
+    let has = vec![in rt.alloc(); true; player.net.receivers.len()].map_err(OutOfMemory::from);
+    let mut has = program.or_end(has)?;
     let mut input = BufReader::new(rt.alloc(), file)?;
-    let player = play_all(rt, net, start, path, &mut input, &mut has)?;
+    play_all(program, &mut player, path, &mut input, &mut has)?;
     let mut out = BufWriter::new(rt.alloc(), rt.stdout())?;
-    write_result(&mut out, net, &has, &player.counts)?;
+    write_result(&mut out, &player, &has)?;
     Ok(())
 }
 
-fn run_player(rt: &HostRuntime) -> Result<(), Stopped> {
+fn run_player(program: Program) -> Result<(), Stopped> {
+    let rt = program.rt;
     let mut words = env::args(rt)?.skip(1);
     let (Some(net_path), Some(plan_path), Some(path), None) = (
         words.next(),
@@ -143,16 +112,20 @@ fn run_player(rt: &HostRuntime) -> Result<(), Stopped> {
         eprintln!(rt; "usage: play NET PLAN MESSAGE")?;
         return Err(Stopped);
     };
-    let net = read_net(rt, "play", net_path.as_str())?;
-    let plan = read_plan(rt, "play", plan_path.as_str(), &net)?;
+    let net = program.read_net(net_path.as_str())?;
+    let plan = program.read_plan(plan_path.as_str(), &net)?;
     if let Plan::Unserved { receiver, side } = &plan {
         let mut out = BufWriter::new(rt.alloc(), rt.stdout())?;
         write_cut(&mut out, &net.network, *receiver, side)?;
         out.flush()?;
         return Ok(());
     }
-    match Player::new(rt.alloc(), &net, &plan) {
-        Ok(player) => play(rt, &net, player, path.as_str()),
+    let fitted = Fitted {
+        net: &net,
+        plan: &plan,
+    };
+    match Player::new(rt.alloc(), &fitted) {
+        Ok(player) => play(program, player, path.as_str()),
         Err(NodeError::Memory) => {
             eprintln!(rt; "play: not enough memory")?;
             Err(Stopped)
@@ -165,5 +138,8 @@ fn run_player(rt: &HostRuntime) -> Result<(), Stopped> {
 }
 
 fn main(rt: HostRuntime) -> ExitCode {
-    status(run_player(&rt))
+    status(run_player(Program {
+        rt: &rt,
+        name: "play",
+    }))
 }

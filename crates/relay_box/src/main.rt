@@ -2,15 +2,15 @@
 // or each line's to a file or pipe of its own.
 #![tactic(auto)]
 
-use console::{Stopped, status};
-use relay_console::{fill, or_stop, read_node, record_length, tell_end, tell_refused};
-use relay_node::{Node, Outcome, PACKET_RECORD_LENGTH, Refusal};
+use console::{OutOfMemory, Program, Stopped, status};
+use relay_console::{Intake, Role, read_node};
+use relay_node::{Node, PACKET_RECORD_LENGTH};
 use std::fs::File;
 use std::io::{BufReader, BufWriter, Read, Stdout, Write};
 use std::process::ExitCode;
 use std::{env, io};
 
-// Where packets go: all to one output, or those over link outs[k] to files[k].
+// Where packets go: all to one output, or those over link outs[k] to files[k]: the links are the node's, and the files are not.
 #[derive(Drop)]
 enum Outlet {
     Together(BufWriter<Stdout>),
@@ -21,12 +21,10 @@ impl Outlet {
     fn put(&mut self, k: usize, packet: &[u8; PACKET_RECORD_LENGTH]) -> io::Result<()> {
         match self {
             Outlet::Together(out) => out.write_all(packet),
-            Outlet::Apart(files) => {
-                if k < files.len() {
-                    files[k].write_all(packet)?;
-                }
-                Ok(())
-            }
+            Outlet::Apart(files) => match files.get_mut(k) {
+                Some(file) => file.write_all(packet),
+                None => Ok(()),
+            },
         }
     }
 
@@ -41,7 +39,8 @@ impl Outlet {
 // Each line's file, in the order of the lines out of the node.
 fn open_lines(rt: &HostRuntime, node: &Node, folder: &str) -> io::Result<Vec<File>> {
     let mut files = Vec::new(rt.alloc());
-    for link in node.outs.iter() {
+    for out in &node.outs {
+        let link = out.link;
         let path = format!(in rt.alloc(); "{folder}/{link}")?;
         let file = File::create(rt, path.as_str())?;
         files.push(file)?;
@@ -54,6 +53,7 @@ fn send(node: &Node, count: u8, outlet: &mut Outlet) -> io::Result<()> {
     let first = node.slots.round.saturating_sub(u64::from(count));
     let mut packet = [0u8; PACKET_RECORD_LENGTH];
     for round in first..node.slots.round {
+        // `write_packet` and `put` take the number
         for k in 0..node.outs.len() {
             node.write_packet(round, k, &mut packet);
             outlet.put(k, &packet)?;
@@ -63,94 +63,68 @@ fn send(node: &Node, count: u8, outlet: &mut Outlet) -> io::Result<()> {
 }
 
 fn work<R: Read>(
-    rt: &HostRuntime,
-    start: Node,
+    program: Program,
+    node: Node,
     input: &mut R,
     outlet: &mut Outlet,
 ) -> Result<(), Stopped> {
-    let mut node = start;
-    let mut refused = 0u64;
-    let Ok(mut bytes) = vec![in rt.alloc(); 0u8; record_length(&node)] else {
-        eprintln!(rt; "box: not enough memory")?;
-        return Err(Stopped);
-    };
+    let intake = Intake::new(program.rt.alloc(), node).map_err(OutOfMemory::from);
+    let mut intake = program.or_end(intake)?;
+    // a bound, so that the loop is known to end; `listen` goes round in the same way, but for what it does with a round, in its midst
     for _ in 0..u64::MAX {
-        let count = or_stop(rt, "box", "standard input", fill(input, &mut bytes))?;
-        if count == 0 {
+        let Some(rounds) = intake.take_next(program, input)? else {
             break;
-        }
-        if count < bytes.len() {
-            refused = refused.saturating_add(1);
-            tell_refused(rt, "box", Refusal::Malformed, &bytes)?;
-            break;
-        }
-        let (next, outcome) = node.take_record(&bytes);
-        node = next;
-        match outcome {
-            Outcome::Taken(rounds) => {
-                if rounds > 0 {
-                    or_stop(rt, "box", "output", send(&node, rounds, outlet))?;
-                }
-            }
-            Outcome::Refused(refusal) => {
-                refused = refused.saturating_add(1);
-                tell_refused(rt, "box", refusal, &bytes)?;
-            }
+        };
+        if rounds > 0 {
+            program.or_stop("output", send(&intake.node, rounds, outlet))?;
         }
     }
-    tell_end(rt, "box", &node, refused)
+    intake.tell_end(program)
 }
 
-fn run(rt: &HostRuntime) -> Result<(), Stopped> {
+fn usage<T>(rt: &HostRuntime) -> Result<T, Stopped> {
+    eprintln!(rt; "usage: box NET PLAN PLACE [--lines DIR]")?;
+    Err(Stopped)
+}
+
+fn run(program: Program) -> Result<(), Stopped> {
+    let rt = program.rt;
     let mut words = env::args(rt)?.skip(1);
     let (Some(net), Some(plan), Some(place)) = (words.next(), words.next(), words.next()) else {
-        eprintln!(rt; "usage: box NET PLAN PLACE [--lines DIR]")?;
-        return Err(Stopped);
+        return usage(rt);
     };
     let option = words.next();
     let folder = words.next();
     let more = words.next();
     let node = read_node(
-        rt,
-        "box",
+        program,
         net.as_str(),
         plan.as_str(),
         place.as_str(),
-        false,
+        Role::Relay,
     )?;
-    let mut input = or_stop(
-        rt,
-        "box",
-        "standard input",
-        BufReader::new(rt.alloc(), rt.stdin()),
-    )?;
+    let input = BufReader::new(rt.alloc(), rt.stdin());
+    let mut input = program.or_stop("standard input", input)?;
     let mut outlet = match (option, folder, more) {
         (None, None, None) => {
             let out = BufWriter::new(rt.alloc(), rt.stdout());
-            Outlet::Together(or_stop(rt, "box", "output", out)?)
+            Outlet::Together(program.or_stop("output", out)?)
         }
         (Some(option), Some(folder), None) => {
             if option.as_str() != "--lines" {
-                eprintln!(rt; "usage: box NET PLAN PLACE [--lines DIR]")?;
-                return Err(Stopped);
+                return usage(rt);
             }
-            let name = folder.as_str();
-            match open_lines(rt, &node, name) {
-                Ok(files) => Outlet::Apart(files),
-                Err(e) => {
-                    eprintln!(rt; "box: {name}: {e}")?;
-                    return Err(Stopped);
-                }
-            }
+            let folder = folder.as_str();
+            Outlet::Apart(program.or_stop(folder, open_lines(rt, &node, folder))?)
         }
-        _ => {
-            eprintln!(rt; "usage: box NET PLAN PLACE [--lines DIR]")?;
-            return Err(Stopped);
-        }
+        _ => return usage(rt),
     };
-    work(rt, node, &mut input, &mut outlet)
+    work(program, node, &mut input, &mut outlet)
 }
 
 fn main(rt: HostRuntime) -> ExitCode {
-    status(run(&rt))
+    status(run(Program {
+        rt: &rt,
+        name: "box",
+    }))
 }

@@ -1,12 +1,14 @@
 // Sequences of packets at nodes of the net of nine lines, with the answers worked out by hand from the rules.
 ghost use Rattle.std.specs.Prelude.{◌≤◌};
 
+use console::Program;
 use gf_bytes::PACKET_LENGTH;
-use relay_memory::Slots;
-use relay_node::{Node, NodeError, Outcome, PACKET_RECORD_LENGTH, write_record};
+use relay_console::Intake;
+use relay_node::{Node, NodeError, PACKET_RECORD_LENGTH, Refusal, write_record};
 use std::alloc::Global;
 use std::process::Abort;
 use std::test::Fail;
+use wire::Fitted;
 
 // 0-1, 0-2, 1-3, 1-5, 2-3, 2-6, 3-4, 4-5, 4-6 at rate 2; listeners 5 and 6.
 const NET: &[u8; 47] =
@@ -129,77 +131,41 @@ fn node_by(
     place: u16,
     listens: bool,
 ) -> Result<Result<Node, NodeError>, Fail> {
-    let Ok(net) = network::read(heap, NET) else {
-        return Err(Fail::new("not a net"));
-    };
-    let Ok(plan) = wire::read(heap, &net, plan) else {
-        return Err(Fail::new("not a plan"));
+    let net = network::read(heap, NET).map_err(|_| Fail::new("not a net"))?;
+    let plan = wire::read(heap, &net, plan).map_err(|_| Fail::new("not a plan"))?;
+    let fitted = Fitted {
+        net: &net,
+        plan: &plan,
     };
     if listens {
-        return Ok(Node::receiver(heap, &net, &plan, place));
+        return Ok(Node::receiver(heap, &fitted, place));
     }
-    Ok(Node::new(heap, &net, &plan, place))
+    Ok(Node::new(heap, &fitted, place))
 }
 
 fn node_at(heap: Global, place: u16) -> Result<Node, Fail> {
-    match node_by(heap, PLAN, place, false)? {
-        Ok(node) => Ok(node),
-        Err(_) => Err(Fail::new("no node")),
-    }
+    Ok(node_by(heap, PLAN, place, false)??)
 }
 
 fn refusal_at(heap: Global, plan: &[u8], place: u16, listens: bool) -> Result<u8, Fail> {
-    match node_by(heap, plan, place, listens)? {
-        Ok(_) => Ok(0),
-        Err(e) => Ok(e.number()),
-    }
+    Ok(node_by(heap, plan, place, listens)?.map_or_else(|e| e.number(), |_| 0))
 }
 
-fn told(outcome: Outcome) -> u8 {
-    match outcome {
-        Outcome::Taken(rounds) => rounds,
-        Outcome::Refused(refusal) => 10u8.saturating_add(refusal.number()),
-    }
+fn told(taken: Result<u8, Refusal>) -> u8 {
+    taken.unwrap_or_else(|refusal| 10u8.saturating_add(refusal.number()))
 }
 
-// The same node in round 2^32 - 2.
-fn aged(node: Node) -> Node {
-    let Node {
-        source,
-        slots,
-        outs,
-        coefficients,
-        current,
-        rows,
-    } = node;
-    let round = slots.round.max(4294967294);
-    let slots = Slots {
-        ins: slots.ins,
-        width: slots.width,
-        round,
-        tags: slots.tags,
-        packets: slots.packets,
-    };
-    Node {
-        source,
-        slots,
-        outs,
-        coefficients,
-        current,
-        rows,
-    }
+// The node goes on in round 2^32 - 2.
+fn age(node: &mut Node) {
+    node.slots.round = node.slots.round.max(4294967294);
 }
 
-fn check_steps(rt: &impl Abort, start: Node, steps: &[Step]) {
-    let mut node = start;
+fn check_steps(rt: &impl Abort, mut node: Node, steps: &[Step]) {
     let packet = [7u8; PACKET_LENGTH];
-    for step in steps {
-        let (link, round, wanted) = *step;
+    for (link, round, wanted) in steps {
         let before = node.slots.round;
-        let (next, outcome) = node.take(link, round, &packet);
-        node = next;
-        assert_eq!(rt; told(outcome), wanted);
-        let ended = if wanted < 10 { u64::from(wanted) } else { 0 };
+        assert_eq!(rt; told(node.take(*link, *round, &packet)), *wanted);
+        let ended = if *wanted < 10 { u64::from(*wanted) } else { 0 };
         assert_eq!(rt; node.slots.round, before.saturating_add(ended));
     }
 }
@@ -213,7 +179,9 @@ fn rounds(rt: HostRuntime) -> Result<(), Fail> {
     check_steps(&rt, node_at(heap, 3)?, &GAP);
     check_steps(&rt, node_at(heap, 3)?, &REFUSED);
     check_steps(&rt, node_at(heap, 4)?, &ONE_LINK);
-    check_steps(&rt, aged(node_at(heap, 3)?), &LAST);
+    let mut old = node_at(heap, 3)?;
+    age(&mut old);
+    check_steps(&rt, old, &LAST);
     Ok(())
 }
 
@@ -222,18 +190,13 @@ fn rounds(rt: HostRuntime) -> Result<(), Fail> {
 fn source(rt: HostRuntime) -> Result<(), Fail> {
     let heap = rt.alloc();
     let mut node = node_at(heap, 0)?;
-    for row in MESSAGES.iter() {
-        let (round, length, wanted) = *row;
-        let bytes = vec![in heap; 1u8; length]?;
-        let (next, outcome) = node.take_message(round, &bytes);
-        node = next;
-        assert_eq!(rt; told(outcome), wanted);
+    for (round, length, wanted) in &MESSAGES {
+        let bytes = vec![in heap; 1u8; *length]?;
+        assert_eq!(rt; told(node.take_message(*round, &bytes)), *wanted);
     }
-    let (_, outcome) = node.take(0, 4, &[0; PACKET_LENGTH]);
-    assert_eq!(rt; told(outcome), 16);
+    assert_eq!(rt; told(node.take(0, 4, &[0; PACKET_LENGTH])), 16);
     let bytes = vec![in heap; 1u8; 2048]?;
-    let (_, outcome) = node_at(heap, 3)?.take_message(0, &bytes);
-    assert_eq!(rt; told(outcome), 11);
+    assert_eq!(rt; told(node_at(heap, 3)?.take_message(0, &bytes)), 11);
     Ok(())
 }
 
@@ -252,24 +215,26 @@ fn places(rt: HostRuntime) -> Result<(), Fail> {
     Ok(())
 }
 
-fn put(rt: &impl Abort, node: Node, link: u16, round: u32, byte: u8, wanted: u8) -> Node {
-    let (node, outcome) = node.take(link, round, &[byte; PACKET_LENGTH]);
-    assert_eq!(rt; told(outcome), wanted);
-    node
+fn put(rt: &impl Abort, node: &mut Node, link: u16, round: u32, byte: u8, wanted: u8) {
+    assert_eq!(rt;
+        told(node.take(link, round, &[byte; PACKET_LENGTH])),
+        wanted
+    );
 }
 
 // Place 3 sends the sum of what came in for each round: a packet that is refused is not in it. 5 + 9 is 12, 3 + 6 is 5.
 #[test]
 fn sums(rt: HostRuntime) -> Result<(), Fail> {
-    let node = node_at(rt.alloc(), 3)?;
-    let node = put(&rt, node, 2, 1, 3, 0);
-    let node = put(&rt, node, 2, 0, 5, 0);
-    let node = put(&rt, node, 2, 0, 77, 17);
-    let node = put(&rt, node, 4, 1, 6, 0);
-    let node = put(&rt, node, 5, 0, 1, 16);
-    let node = put(&rt, node, 4, 0, 9, 2);
-    assert_eq!(rt; node.outs.as_slice(), [6].as_slice());
+    let mut node = node_at(rt.alloc(), 3)?;
+    put(&rt, &mut node, 2, 1, 3, 0);
+    put(&rt, &mut node, 2, 0, 5, 0);
+    put(&rt, &mut node, 2, 0, 77, 17);
+    put(&rt, &mut node, 4, 1, 6, 0);
+    put(&rt, &mut node, 5, 0, 1, 16);
+    put(&rt, &mut node, 4, 0, 9, 2);
+    assert_eq!(rt; node.outs.len(), 1);
     if node.outs.len() > 0 {
+        assert_eq!(rt; node.outs[0].link, 6);
         assert_eq!(rt; node.mix(0, 0)[0], 12);
         assert_eq!(rt; node.mix(1, 0)[1023], 5);
     }
@@ -279,9 +244,9 @@ fn sums(rt: HostRuntime) -> Result<(), Fail> {
 // Listener 5 has the first packet over line 3, and the sum over line 7: 12 + 5 is 9.
 #[test]
 fn listener(rt: HostRuntime) -> Result<(), Fail> {
-    let node = node_at(rt.alloc(), 5)?;
-    let node = put(&rt, node, 7, 0, 12, 0);
-    let node = put(&rt, node, 3, 0, 5, 1);
+    let mut node = node_at(rt.alloc(), 5)?;
+    put(&rt, &mut node, 7, 0, 12, 0);
+    put(&rt, &mut node, 3, 0, 5, 1);
     assert_eq!(rt; node.current.len(), 2);
     if node.current.len() == 2 {
         assert_eq!(rt; node.read(0, 0)[0], 5);
@@ -298,17 +263,40 @@ fn records(rt: HostRuntime) -> Result<(), Fail> {
     write_record(&mut bytes, 260, 16909060, &[9; PACKET_LENGTH]);
     assert_eq!(rt; &bytes[0..8], [3, 1, 4, 1, 2, 3, 4, 9].as_slice());
     write_record(&mut bytes, 4, 0, &[9; PACKET_LENGTH]);
-    let node = node_at(heap, 3)?;
-    let (node, outcome) = node.take_record(&bytes[0..1030]);
-    assert_eq!(rt; told(outcome), 11);
-    let (node, outcome) = node.take_record(&[]);
-    assert_eq!(rt; told(outcome), 11);
-    let (node, outcome) = node.take_record(&bytes);
-    assert_eq!(rt; told(outcome), 0);
-    let (node, outcome) = node.take_record(&bytes);
-    assert_eq!(rt; told(outcome), 17);
+    let mut node = node_at(heap, 3)?;
+    assert_eq!(rt; told(node.take_record(&bytes[0..1030])), 11);
+    assert_eq!(rt; told(node.take_record(&[])), 11);
+    assert_eq!(rt; told(node.take_record(&bytes)), 0);
+    assert_eq!(rt; told(node.take_record(&bytes)), 17);
     bytes[0] = 4;
-    let (_, outcome) = node.take_record(&bytes);
-    assert_eq!(rt; told(outcome), 11);
+    assert_eq!(rt; told(node.take_record(&bytes)), 11);
+    Ok(())
+}
+
+fn taken(rt: &HostRuntime, intake: &mut Intake, input: &mut &[u8]) -> Result<Option<u8>, Fail> {
+    intake
+        .take_next(Program { rt, name: "test" }, input)
+        .map_err(|_| Fail::new("stopped"))
+}
+
+// A packet, the same once more, and a record that is cut short.
+#[test]
+fn intake(rt: HostRuntime) -> Result<(), Fail> {
+    let heap = rt.alloc();
+    let mut record = [0u8; PACKET_RECORD_LENGTH];
+    write_record(&mut record, 6, 0, &[9; PACKET_LENGTH]);
+    let mut stream = Vec::new(heap);
+    stream.extend_from_slice(&record)?;
+    stream.extend_from_slice(&record)?;
+    stream.extend_from_slice(&record[..5])?;
+    let mut input = stream.as_slice();
+    let mut intake = Intake::new(heap, node_at(heap, 4)?)?;
+    assert_eq!(rt; taken(&rt, &mut intake, &mut input)?, Some(1));
+    assert_eq!(rt; intake.refused, 0);
+    assert_eq!(rt; taken(&rt, &mut intake, &mut input)?, Some(0));
+    assert_eq!(rt; intake.refused, 1);
+    assert_eq!(rt; taken(&rt, &mut intake, &mut input)?, None);
+    assert_eq!(rt; intake.refused, 2);
+    assert_eq!(rt; intake.node.slots.round, 1);
     Ok(())
 }

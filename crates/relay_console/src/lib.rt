@@ -1,8 +1,12 @@
-// What the programs at the places of a net share: making the node, reading records, telling what is refused.
+// What `box` and `listen` share: the node at a place, and the records that come in at it.
 #![tactic(auto)]
 
+mod intake;
 mod node;
+mod role;
 mod stream;
 
+pub use intake::Intake;
 pub use node::read_node;
-pub use stream::{fill, or_stop, record_length, tell_end, tell_refused};
+pub use role::Role;
+pub use stream::{fill, record_length};

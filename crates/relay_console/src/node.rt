@@ -1,71 +1,50 @@
 // The node at a place of a net.
-ghost use Rattle.std.specs.Prelude.{IfOk, if◌then◌else◌};
+ghost use Rattle.std.specs.Prelude.{IfOk};
 ghost use Rattle.network.specs.Values.{value};
-ghost use Rattle.wire.specs.Plan.{Fits};
 ghost use Rattle.wire.specs.Values.{plan as plan_of};
-ghost use Rattle.relay_node.specs.Nodes.{refusal, receiver_refusal, Begun};
-ghost use Rattle.relay_console.specs.Places.{AtWork};
+ghost use Rattle.relay_node.specs.Nodes.{Begun};
+ghost use Rattle.relay_console.specs.Places.{AtWork, refusal_of};
 
-use console::{Stopped, read_net, read_plan};
-use network::Multicast;
+use crate::role::Role;
+use console::{Program, Stopped};
 use relay_node::{Node, NodeError};
 use std::alloc::Global;
-use wire::Plan;
+use wire::{Fitted, Plan};
 
-// The node at a place; a receiver, where it is to listen.
-fn node_at(
-    heap: Global,
-    net: &Multicast,
-    plan: &Plan,
-    place: u16,
-    listens: bool,
-) -> Result<Node, NodeError>
-    requires { Fits (value net.now) (plan_of plan.now) }
-    ensures { Begun (value net.now) (plan_of plan.now) place (if listens then receiver_refusal (value net.now) (plan_of plan.now) place else refusal (value net.now) (plan_of plan.now) place) result }
+fn node_at(heap: Global, fitted: &Fitted, place: u16, role: Role) -> Result<Node, NodeError>
+    ensures { Begun (value fitted.now.net.now) (plan_of fitted.now.plan.now) place (refusal_of role (value fitted.now.net.now) (plan_of fitted.now.plan.now) place) result }
 {
-    if listens {
-        Node::receiver(heap, net, plan, place)
-    } else {
-        Node::new(heap, net, plan, place)
+    match role {
+        Role::Relay => Node::new(heap, fitted, place),
+        Role::Receiver => Node::receiver(heap, fitted, place),
     }
 }
 
 // Reads the net and its plan, and makes the node at a place, or says why not: of the net, the plan and the place the first that is at fault.
 pub fn read_node(
-    rt: &HostRuntime,
-    program: &str,
+    program: Program,
     net_path: &str,
     plan_path: &str,
     place: &str,
-    listens: bool,
+    role: Role,
 ) -> Result<Node, Stopped>
-    ensures { IfOk result (λ d. AtWork listens d) }
+    ensures { IfOk result (λ d. AtWork role d) }
 {
-    let net = read_net(rt, program, net_path)?;
-    let plan = read_plan(rt, program, plan_path, &net)?;
+    let net = program.read_net(net_path)?;
+    let plan = program.read_plan(plan_path, &net)?;
     if let Plan::Unserved { .. } = plan {
-        eprintln!(rt;
-            "{program}: {plan_path}: fault 9: a plan with a cut, by which no one is served"
+        let name = program.name;
+        eprintln!(program.rt;
+            "{name}: {plan_path}: fault 9: a plan with a cut, by which no one is served"
         )?;
         return Err(Stopped);
     }
-    let Ok(number) = place.parse::<u16>() else {
-        eprintln!(rt; "{program}: {place}: fault 2: a place that isn't there")?;
-        return Err(Stopped);
+    let number = place.parse::<u16>().map_err(|_| NodeError::Missing);
+    let number = program.or_stop(place, number)?;
+    let fitted = Fitted {
+        net: &net,
+        plan: &plan,
     };
-    match node_at(rt.alloc(), &net, &plan, number, listens) {
-        Ok(node) => Ok(node),
-        Err(NodeError::Missing) => {
-            eprintln!(rt; "{program}: {place}: fault 2: a place that isn't there")?;
-            Err(Stopped)
-        }
-        Err(NodeError::Unfit) => {
-            eprintln!(rt; "{program}: {place}: fault 9: a listener that isn't one")?;
-            Err(Stopped)
-        }
-        Err(NodeError::Memory) => {
-            eprintln!(rt; "{program}: {place}: not enough memory")?;
-            Err(Stopped)
-        }
-    }
+    let node = node_at(program.rt.alloc(), &fitted, number, role);
+    program.or_stop(place, node)
 }

@@ -1,5 +1,5 @@
 -- Each way of `take` gives what is received by the definition.
-use Rattle.std.proofs.Common.{◌≡◌, ℕ, ◌+◌, ◌<◌, ◌≤◌, true, false, ◌||◌, ltb, List, [], length, get_or, vec_items, vec_len, sym, refl, ap, ◌∙◌, ap₂, arith}
+use Rattle.std.proofs.Common.{◌≡◌, ℕ, ◌+◌, ◌<◌, ◌≤◌, true, false, ◌||◌, ltb, List, [], length, get_or, Some, None, vec_items, vec_len, sym, refl, ap, ◌∙◌, ap₂, arith}
 use Rattle.std.proofs.lemmas.Bool.{lt-ltb, le-ltb, or_left, or_right}
 use Rattle.network_cuts.specs.Scheme.{Packet}
 use Rattle.relay_theory.specs.Relay.{is_in, any, refused, took, keep, ends, receive}
@@ -46,16 +46,16 @@ module _ (s : Slots) (link round : ℕ) (packets : List Packet) where
     unfolding any
     early h =
         let none : held (ins s) s.width s.round (vec_items s.tags) (vec_items s.packets) link round ≡ [] =
-        held_none (ins s) s.width s.round (vec_items s.tags) (vec_items s.packets) link round (λ _ _ e. omega (arith, s.recent (slot (length (ins s)) round (place link (ins s))))) in
+        held_none (ins s) s.width s.round (vec_items s.tags) (vec_items s.packets) link round (λ _ _ e. omega (arith, s.recent (slot (length (ins s)) round (place link (ins s))) round e)) in
         early-for known (rw (le-ltb round s.round (omega arith), none) refl) h
 
-    pub twice : s.round ≤ round → get_or (vec_items s.tags) (slot (vec_len s.ins) round i) 0 ≡ round + 1 → receive (ins s) (state s) (parcel link round packets) ≡ refused 7
+    pub twice : s.round ≤ round → get_or (vec_items s.tags) (slot (vec_len s.ins) round i) None ≡ Some round → receive (ins s) (state s) (parcel link round packets) ≡ refused 7
     unfolding any
     twice h e =
         let one = held_one (ins s) s.width s.round (vec_items s.tags) (vec_items s.packets) link round known h (rw standing (rw (links s) at e)) in
         late-for known (or_right _ _ (ap any one))
 
-    fits : s.round ≤ round → round ≤ s.round + 2 → (get_or (vec_items s.tags) (slot (vec_len s.ins) round i) 0 ≡ round + 1 → ⊥)
+    fits : s.round ≤ round → round ≤ s.round + 2 → (get_or (vec_items s.tags) (slot (vec_len s.ins) round i) None ≡ Some round → ⊥)
         → receive (ins s) (state s) (parcel link round packets) ≡ took (ends 3 (ins s) (keep (parcel link round packets) (state s)))
     fits h soon free =
         accepts (ins s) (state s) (parcel link round packets) (record {
@@ -65,7 +65,7 @@ module _ (s : Slots) (link round : ℕ) (packets : List Packet) where
           soon = soon;
         })
 
-    pub taken : s.round ≤ round → round ≤ s.round + 2 → (get_or (vec_items s.tags) (slot (vec_len s.ins) round i) 0 ≡ round + 1 → ⊥)
+    pub taken : s.round ≤ round → round ≤ s.round + 2 → (get_or (vec_items s.tags) (slot (vec_len s.ins) round i) None ≡ Some round → ⊥)
         → (kept after : Slots) (count : ℕ) → state kept ≡ keep (parcel (get_or (ins s) i 0) round packets) (state s) → kept.ins ≡ s.ins → kept.round ≡ s.round
         → ends 3 (ins kept) (state kept) ≡ ended_in after kept.round count
         → receive (ins s) (state s) (parcel link round packets) ≡ took (ended_in after s.round count)

@@ -1,9 +1,10 @@
 -- A slot serves one link, and rounds that are three apart. Since no tag is of a round beyond the two that follow the one at work, a slot
 -- whose tag is of some round at work or later serves no other such round: so a write to a free slot adds what came in and takes nothing away.
-use Rattle.std.proofs.Common.{◌≡◌, ℕ, zero, suc, ◌+◌, ◌*◌, ◌/◌, ◌%◌, ◌<◌, ◌≤◌, Bool, true, false, cond, ◌&&◌, eqb, leb, ◌⊎◌, List, [], ◌∷◌, ◌++◌, map, length, get_or, set, sym, refl, ap, ◌∙◌, ap₂, inl, inr, mod-lt, arith, get_or-set_other, get_or-set_same}
+use Rattle.std.proofs.Common.{◌≡◌, ℕ, zero, suc, ◌+◌, ◌*◌, ◌/◌, ◌%◌, ◌<◌, ◌≤◌, Bool, true, false, cond, ◌&&◌, eqb, leb, ◌⊎◌, List, [], ◌∷◌, ◌++◌, map, length, get_or, set, Some, None, Option, MatchOption, sym, refl, ap, ◌∙◌, ap₂, inl, inr, mod-lt, arith, get_or-set_other, get_or-set_same}
 use mathlib.Core.Path.{fun_ext}
 use lib.Arith.{digits_lt, digits_div, digits_mod}
-use Rattle.std.specs.List.{range_with_len}
+use Rattle.std.specs.Option.{option_eq}
+use Rattle.std.specs.List.{range_with_len, AllWithin, HoldsAt}
 use Rattle.std.proofs.lemmas.Bool.{cases_Bool, cases_eq, eq-eqb, ne_eqb, eqb-true, le-leb, lt-leb, leb-true, leb-false, or_left, or_right, or_cases, and_parts, and_from, both_ways}
 use Rattle.network.specs.Network.{Rising}
 use Rattle.network_cuts.specs.Scheme.{Packet}
@@ -42,6 +43,21 @@ at_in k (j ∷ ks) h = go (cases_eq k j) (at_in k ks)
 pub not_in : (k : ℕ) (ks : List ℕ) → ((i : ℕ) → i < length ks → get_or ks i 0 ≡ k → ⊥) → is_in k ks ≡ false
 not_in k ks o = elim (cases_Bool (is_in k ks)) [ inl t ↦ (let a = at_in k ks t in absurd (o (place k ks) a.0 a.1)) | inr t ↦ t ]
 
+-- as the code finds a number in a list
+pub found : (k : ℕ) (ks : List ℕ) (r : Option ℕ) → MatchOption r (AllWithin (λ n. n ≡ k → ⊥) ks 0 (length ks)) (λ i. (i < length ks) × HoldsAt (λ n. n ≡ k) ks i × AllWithin (λ n. n ≡ k → ⊥) ks 0 i)
+    → MatchOption r (is_in k ks ≡ false) (λ i. (i < length ks) × (get_or ks i 0 ≡ k) × (i ≡ place k ks))
+found k ks None h = not_in k ks (λ i l. h i 0 (omega arith) l)
+found k ks (Some i) h = (h.0, h.1 0, sym (place-first k ks i h.0 (h.1 0) (λ j l. h.2 j 0 (omega arith) l)))
+
+-- the tag of a slot is a round
+pub is-held : (o : Option ℕ) (r : ℕ) → o ≡ Some r → option_eq eqb o (Some r) ≡ true
+is-held None r e = cc
+is-held (Some x) r e = eq-eqb x r cc
+
+pub held-is : (o : Option ℕ) (r : ℕ) → option_eq eqb o (Some r) ≡ true → o ≡ Some r
+held-is None r h = absurd (both_ways false refl h)
+held-is (Some x) r h = ap Some (eqb-true x r h)
+
 slot_same : (n a b i j : ℕ) → i < n → j < n → a * n + i ≡ b * n + j → (a ≡ b) × (i ≡ j)
 slot_same n a b i j k l e =
     (sym (digits_div a k) ∙ ap (λ x. x / n) e ∙ digits_div b l, sym (digits_mod a k) ∙ ap (λ x. x % n) e ∙ digits_mod b l)
@@ -62,22 +78,22 @@ came-list f (k ∷ ks) a kept r h =
     ap₂ (λ x y. x ++ y) (rw z at (h 0 (omega arith))) ih
 
 -- what is held
-module _ (ins : List ℕ) (width round : ℕ) (tags : List ℕ) (packets : List Packet) where
+module _ (ins : List ℕ) (width round : ℕ) (tags : List (Option ℕ)) (packets : List Packet) where
   abbrev s : (k r : ℕ) → ℕ
   s k r = slot (length ins) r (place k ins)
 
-  pub held_one : (k r : ℕ) → is_in k ins ≡ true → round ≤ r → get_or tags (s k r) 0 ≡ r + 1 → held ins width round tags packets k r ≡ part width (s k r) packets ∷ []
+  pub held_one : (k r : ℕ) → is_in k ins ≡ true → round ≤ r → get_or tags (s k r) None ≡ Some r → held ins width round tags packets k r ≡ part width (s k r) packets ∷ []
   unfolding held
-  held_one k r a b e = rw (a, le-leb round r b, eq-eqb _ (r + 1) e)
+  held_one k r a b e = rw (a, le-leb round r b, is-held _ r e)
 
-  pub held_none : (k r : ℕ) → (is_in k ins ≡ true → round ≤ r → get_or tags (s k r) 0 ≡ r + 1 → ⊥) → held ins width round tags packets k r ≡ []
+  pub held_none : (k r : ℕ) → (is_in k ins ≡ true → round ≤ r → get_or tags (s k r) None ≡ Some r → ⊥) → held ins width round tags packets k r ≡ []
   unfolding held
   held_none k r o =
-      elim (cases_Bool (is_in k ins && (leb round r && eqb (get_or tags (s k r) 0) (r + 1)))) [
+      elim (cases_Bool (is_in k ins && (leb round r && option_eq eqb (get_or tags (s k r) None) (Some r)))) [
         | inl t ↦
             let a = and_parts (is_in k ins) _ t in
             let b = and_parts (leb round r) _ a.1 in
-            absurd (o a.0 (leb-true round r b.0) (eqb-true _ _ b.1))
+            absurd (o a.0 (leb-true round r b.0) (held-is _ r b.1))
         | inr t ↦ rw t
       ]
 
@@ -100,15 +116,15 @@ module _ (ins : List ℕ) (rising : Rising (length ins) (λ i. get_or ins i 0)) 
   pub place_at : (k i : ℕ) → i < length ins → get_or ins i 0 ≡ k → place k ins ≡ i
   place_at k i l e = place-first k ins i l e (λ j h d. omega (arith, rising j i h l))
 
-  module _ (width round : ℕ) (tags : List ℕ) (packets : List Packet) where
+  module _ (width round : ℕ) (tags : List (Option ℕ)) (packets : List Packet) where
     -- the packets that lie where those of the round at work do
     abbrev works : State (List Packet)
     works = record { round = round; kept = held ins width round tags packets }
 
-    abbrev tag : ℕ → ℕ
-    tag i = get_or tags (slot (length ins) round i) 0
+    abbrev tag : ℕ → Option ℕ
+    tag i = get_or tags (slot (length ins) round i) None
 
-    pub over-from : 0 < length ins → ((i : ℕ) → i < length ins → tag i ≡ round + 1) → is_over ins works ≡ true
+    pub over-from : 0 < length ins → ((i : ℕ) → i < length ins → tag i ≡ Some round) → is_over ins works ≡ true
     unfolding is_over any
     over-from some all =
         and_from _ _ (in-any-at ins some)
@@ -117,7 +133,7 @@ module _ (ins : List ℕ) (rising : Rising (length ins) (λ i. get_or ins i 0)) 
         let h = held_one ins width round tags packets k round t (omega arith) (all (place k ins) a.0) in
         let z : ◌≡◌ {A = ℕ} 0 1 = cc in omega arith))
 
-    pub over-not : (i : ℕ) → i < length ins → (tag i ≡ round + 1 → ⊥) → is_over ins works ≡ false
+    pub over-not : (i : ℕ) → i < length ins → (tag i ≡ Some round → ⊥) → is_over ins works ≡ false
     unfolding is_over
     over-not i l o =
         elim (cases_Bool (any ins && complete round ins (held ins width round tags packets))) [
@@ -128,8 +144,8 @@ module _ (ins : List ℕ) (rising : Rising (length ins) (λ i. get_or ins i 0)) 
           | inr t ↦ t
         ]
 
-    pub over-tags : is_over ins works ≡ true → (i : ℕ) → i < length ins → tag i ≡ round + 1
-    over-tags h i l = elim (cases_eq (tag i) (round + 1)) [ inl e ↦ e | inr e ↦ absurd (both_ways _ (over-not i l e) h) ]
+    pub over-tags : is_over ins works ≡ true → (i : ℕ) → i < length ins → tag i ≡ Some round
+    over-tags h i l = elim (cases_Bool (option_eq eqb (tag i) (Some round))) [ inl t ↦ held-is _ _ t | inr f ↦ absurd (both_ways _ (over-not i l (λ e. both_ways _ f (is-held _ _ e))) h) ]
 
     pub came-row : is_over ins works ≡ true → came_in round ins (held ins width round tags packets) ≡ row (length ins) width round packets
     came-row h =
@@ -140,16 +156,16 @@ module _ (ins : List ℕ) (rising : Rising (length ins) (λ i. get_or ins i 0)) 
         rw p at (held_one ins width round tags packets k round (in-at k ins i l refl) (omega arith) (rw p (over-tags h i l))))
 
   -- something comes in, and is put into its slot
-  module _ (width round : ℕ) (tags : List ℕ) (packets packets⁺ : List Packet) (x : Parcel (List Packet)) (i : ℕ) (l : i < length ins) (there : get_or ins i 0 ≡ x.link)
-      (late : round ≤ x.round) (soon : x.round ≤ round + 2) (free : get_or tags (slot (length ins) x.round i) 0 ≡ x.round + 1 → ⊥)
-      (recent : (j : ℕ) → get_or tags j 0 ≤ round + 3) (full-tags : length tags ≡ 3 * length ins)
+  module _ (width round : ℕ) (tags : List (Option ℕ)) (packets packets⁺ : List Packet) (x : Parcel (List Packet)) (i : ℕ) (l : i < length ins) (there : get_or ins i 0 ≡ x.link)
+      (late : round ≤ x.round) (soon : x.round ≤ round + 2) (free : get_or tags (slot (length ins) x.round i) None ≡ Some x.round → ⊥)
+      (recent : (j r : ℕ) → get_or tags j None ≡ Some r → r ≤ round + 2) (full-tags : length tags ≡ 3 * length ins)
       (put : part width (slot (length ins) x.round i) packets⁺ ≡ x.content)
       (others : (s : ℕ) → (s ≡ slot (length ins) x.round i → ⊥) → part width s packets⁺ ≡ part width s packets) where
     abbrev here : ℕ
     here = slot (length ins) x.round i
 
-    abbrev tags⁺ : List ℕ
-    tags⁺ = set tags here (x.round + 1)
+    abbrev tags⁺ : List (Option ℕ)
+    tags⁺ = set tags here (Some x.round)
 
     within : here < 3 * length ins
     within = digits_lt (mod-lt x.round (omega arith)) l
@@ -160,8 +176,8 @@ module _ (ins : List ℕ) (rising : Rising (length ins) (λ i. get_or ins i 0)) 
     pub none-held : held ins width round tags packets x.link x.round ≡ []
     none-held = held_none ins width round tags packets x.link x.round (λ _ _ e. free (rw in_place at e))
 
-    new-tag : get_or tags⁺ here 0 ≡ x.round + 1
-    new-tag = get_or-set_same tags here (x.round + 1) 0 (omega (arith, within))
+    new-tag : get_or tags⁺ here None ≡ Some x.round
+    new-tag = get_or-set_same tags here (Some x.round) None (omega (arith, within))
 
     one-held : held ins width round tags⁺ packets⁺ x.link x.round ≡ x.content ∷ []
     one-held =
@@ -173,7 +189,7 @@ module _ (ins : List ℕ) (rising : Rising (length ins) (λ i. get_or ins i 0)) 
     unfolding held
     apart k r o =
         let j : ℕ = slot (length ins) r (place k ins) in
-        ap₂ (λ t p. cond (is_in k ins && (leb round r && eqb t (r + 1))) (p ∷ []) []) (get_or-set_other tags here j (x.round + 1) 0 o) (others j o)
+        ap₂ (λ t p. cond (is_in k ins && (leb round r && option_eq eqb t (Some r))) (p ∷ []) []) (get_or-set_other tags here j (Some x.round) None o) (others j o)
 
     -- the slot serves no other link, and no other round in which something can be held
     same-link : (k r : ℕ) → is_in k ins ≡ true → slot (length ins) r (place k ins) ≡ here → (r % 3 ≡ x.round % 3) × (k ≡ x.link)
@@ -184,8 +200,8 @@ module _ (ins : List ℕ) (rising : Rising (length ins) (λ i. get_or ins i 0)) 
 
     shared : (k r : ℕ) → Other k r x → slot (length ins) r (place k ins) ≡ here → held ins width round tags⁺ packets⁺ k r ≡ held ins width round tags packets k r
     shared k r o e =
-        held_none ins width round tags⁺ packets⁺ k r (λ t _ d. o (same-link k r t e).1 (omega (arith, sym new-tag ∙ ap (λ j. get_or tags⁺ j 0) (sym e) ∙ d)))
-        ∙ sym (held_none ins width round tags packets k r (λ t h d. let q = same-link k r t e in o q.1 (omega (arith, q.0, recent (slot (length ins) r (place k ins))))))
+        held_none ins width round tags⁺ packets⁺ k r (λ t _ d. o (same-link k r t e).1 (let q : Some r ≡ Some x.round = sym d ∙ ap (λ j. get_or tags⁺ j None) e ∙ new-tag in cc))
+        ∙ sym (held_none ins width round tags packets k r (λ t h d. let q = same-link k r t e in o q.1 (omega (arith, q.0, recent (slot (length ins) r (place k ins)) r d))))
 
     keeps : (k r : ℕ) → held ins width round tags⁺ packets⁺ k r ≡ added x (held ins width round tags packets) k r
     keeps k r =

@@ -5,8 +5,9 @@
 --   held    what the memory holds for a link and a round, by the tags of its slots
 --   row     all that lies where the arrivals of a round do, in the order of the links
 -- Assumes nothing.
-use Rattle.std.specs.Prelude.{ℕ, ◌+◌, ◌*◌, ◌%◌, cond, ◌&&◌, List, [], ◌∷◌, map, length, take, drop, ◌==◌, nat_le, slice_index}
+use Rattle.std.specs.Prelude.{ℕ, ◌+◌, ◌*◌, ◌%◌, cond, ◌&&◌, List, [], ◌∷◌, map, length, take, drop, Some, None, Option, nat_eq, nat_le, slice_index_or}
 use Rattle.std.specs.List.{range_with_len}
+use Rattle.std.specs.Option.{option_eq}
 use Rattle.network_cuts.specs.Scheme.{Packet}
 use Rattle.relay_theory.specs.Relay.{is_in}
 use Rattle.delivery_theory.specs.Work.{place}
@@ -22,11 +23,11 @@ cut count bytes = map (λ j. part 1024 j bytes) (range_with_len 0 count)
 abbrev pub slot : (n r i : ℕ) → ℕ
 slot n r i = r % 3 * n + i
 
--- the tag of a slot is one more than the round of what is in it; rounds before the one at work are over
-unfoldable pub held : (ins : List ℕ) (width round : ℕ) (tags : List ℕ) (packets : List Packet) → ℕ → ℕ → List (List Packet)
+-- the tag of a slot is the round of what is in it; rounds before the one at work are over
+unfoldable pub held : (ins : List ℕ) (width round : ℕ) (tags : List (Option ℕ)) (packets : List Packet) → ℕ → ℕ → List (List Packet)
 held ins width round tags packets k r =
     let s : ℕ = slot (length ins) r (place k ins) in
-    cond (is_in k ins && (nat_le round r && slice_index tags s == r + 1)) (part width s packets ∷ []) []
+    cond (is_in k ins && (nat_le round r && option_eq nat_eq (slice_index_or tags s None) (Some r))) (part width s packets ∷ []) []
 
 abbrev pub row : (n width r : ℕ) → List Packet → List (List Packet)
 row n width r packets = map (λ s. part width s packets) (range_with_len (r % 3 * n) n)

@@ -1,7 +1,7 @@
 -- The refusals of what comes in: number, the number of each, and text, its words. Assumes nothing.
 use Rattle.std.specs.Prelude.{ℕ, List, codes}
-use Rattle.relay_memory.specs.declared.outcome.Refusal.{Refusal}
-use Rattle.relay_memory.specs.declared.outcome.Refusal.TheVariants.{Malformed, Foreign, Late, Early}
+use Rattle.relay_memory.specs.declared.refusal.Refusal.{Refusal}
+use Rattle.relay_memory.specs.declared.refusal.Refusal.TheVariants.{Malformed, Foreign, Late, Early}
 
 abbrev pub number : Refusal → ℕ
 number Malformed = 1

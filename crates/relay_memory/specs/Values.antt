@@ -5,14 +5,13 @@
 --   ended_in  the state, and the rounds that have just ended
 --   Tells     what is told of what comes in
 -- Assumes nothing.
-use Rattle.std.specs.Prelude.{◌≡◌, ℕ, ◌+◌, ◌≤◌, List, map, length, vec_items}
+use Rattle.std.specs.Prelude.{◌≡◌, ℕ, ◌+◌, ◌≤◌, List, map, length, Ok, Err, Result, vec_items}
 use Rattle.std.specs.List.{range_with_len}
 use Rattle.network_cuts.specs.Scheme.{Packet}
 use Rattle.relay_theory.specs.Relay.{Parcel, State, Over, Ended, Answer, refused, took}
 use Rattle.relay_memory.specs.Refusals.{number}
 use Rattle.relay_memory.specs.Memory.{held, row}
-use Rattle.relay_memory.specs.declared.outcome.Outcome.{Outcome}
-use Rattle.relay_memory.specs.declared.outcome.Outcome.TheVariants.{Refused, Taken}
+use Rattle.relay_memory.specs.declared.refusal.Refusal.{Refusal}
 use Rattle.relay_memory.specs.declared.slots.Slots.{Slots}
 
 abbrev pub parcel : ℕ → ℕ → List Packet → Parcel (List Packet)
@@ -29,6 +28,6 @@ abbrev pub ended_in : Slots → (from count : ℕ) → Ended (List Packet)
 ended_in s from count = record { state = state s; rounds = map (over_in s) (range_with_len from count) }
 
 -- a refusal leaves all as it was; else so many rounds have ended, beginning with the one that was at work
-abbrev pub Tells : (before after : Slots) → Outcome → Answer (List Packet) → Type 0
-Tells before after (Refused f) a = (a ≡ refused (number f)) × (after ≡ before)
-Tells before after (Taken count) a = (count ≤ 3) × (after.round ≡ before.round + count) × (a ≡ took (ended_in after before.round count))
+abbrev pub Tells : (before after : Slots) → Result ℕ Refusal → Answer (List Packet) → Type 0
+Tells before after (Err f) a = (a ≡ refused (number f)) × (after ≡ before)
+Tells before after (Ok count) a = (count ≤ 3) × (after.round ≡ before.round + count) × (a ≡ took (ended_in after before.round count))

@@ -2,10 +2,10 @@
 #![tactic(auto)]
 
 mod links;
-mod outcome;
+mod refusal;
 mod slots;
 mod slots_steps;
 
 pub use links::position;
-pub use outcome::{Outcome, Refusal};
+pub use refusal::Refusal;
 pub use slots::Slots;

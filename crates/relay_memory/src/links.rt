@@ -7,10 +7,5 @@ ghost use Rattle.delivery_theory.specs.Work.{place};
 pub fn position(numbers: &[u16], number: u16) -> Option<usize>
     ensures { MatchOption result (is_in number numbers.now ≡ false) (λ i. (i < length numbers.now) × (slice_index numbers.now i ≡ number) × (i ≡ place number numbers.now)) }
 {
-    for (i, n) in numbers.iter().enumerate() {
-        if *n == number {
-            return Some(i);
-        }
-    }
-    None
+    numbers.iter().position(|n| *n == number)
 }

@@ -1,14 +1,14 @@
 // What comes in is kept, and rounds end.
-ghost use Rattle.std.specs.Prelude.{◌≡◌, ℕ, ◌+◌, ◌*◌, ◌<◌, ◌≤◌, true, [], length, IfOk, vec_len, ◌≢◌, slice_index, slice_index_or};
+ghost use Rattle.std.specs.Prelude.{◌≡◌, ◌+◌, ◌*◌, ◌<◌, ◌≤◌, true, length, Some, None, IfOk, vec_len, ◌≢◌, slice_index, slice_index_or};
 ghost use Rattle.network.specs.Network.{Rising};
 ghost use Rattle.relay_theory.specs.Relay.{fresh, is_over, next, keep, ends, receive};
-ghost use Rattle.relay_memory.specs.Memory.{part, cut, slot};
+ghost use Rattle.relay_memory.specs.Memory.{cut, slot};
 ghost use Rattle.relay_memory.specs.Values.{parcel, state, ended_in, Tells};
 
 use crate::links::position;
-use crate::outcome::{Outcome, Refusal};
+use crate::refusal::Refusal;
 use crate::slots::Slots;
-use gf_bytes::{PACKET_LENGTH, Packet};
+use gf_bytes::PACKET_LENGTH;
 use std::alloc::{AllocError, Global};
 
 impl Slots {
@@ -20,7 +20,7 @@ impl Slots {
         ensures { IfOk result (λ s. (state s ≡ fresh) × (s.ins ≡ ins) × (s.width ≡ width)) }
     {
         let count = 3 * ins.len();
-        let tags = vec![in heap; 0u64; count]?;
+        let tags = vec![in heap; None; count]?;
         let packets = vec![in heap; [0u8; PACKET_LENGTH]; count * width]?;
         Ok(Slots {
             ins,
@@ -37,109 +37,74 @@ impl Slots {
     {
         let links = self.ins.len();
         let first = (self.round % 3) as usize * links;
-        for i in 0..links {
-            if self.tags[first + i] != self.round + 1 {
-                return false;
-            }
-        }
         links > 0
+            && self.tags[first..first + links]
+                .iter()
+                .all(|tag| *tag == Some(self.round))
     }
 
     // Ends the round at work. Its packets stay where they are until one that is three rounds later comes in.
-    fn next(self) -> Slots
-        requires { is_over self.ins.items (state self) ≡ true }
-        ensures state { state result ≡ next (state self) }
-        ensures kept { (result.ins ≡ self.ins) × (result.width ≡ self.width) × (result.packets ≡ self.packets) × (result.round ≡ self.round + 1) }
+    fn next(&mut self)
+        requires { is_over self.old.ins.items (state self.old) ≡ true }
+        ensures state { state self.new ≡ next (state self.old) }
+        ensures kept { (self.new.ins ≡ self.old.ins) × (self.new.width ≡ self.old.width) × (self.new.packets ≡ self.old.packets) × (self.new.round ≡ self.old.round + 1) }
     {
-        Slots {
-            ins: self.ins,
-            width: self.width,
-            round: self.round + 1,
-            tags: self.tags,
-            packets: self.packets,
-        }
+        self.round += 1;
     }
 
-    // Ends rounds one after the other while they are over, three at most.
-    fn end_rounds(self) -> (Slots, u8)
-        ensures ends { ends 3 self.ins.items (state self) ≡ ended_in result.0 self.round result.1 }
-        ensures count { (result.1 ≤ 3) × (result.0.round ≡ self.round + result.1) }
-        ensures same { (result.0.ins ≡ self.ins) × (result.0.width ≡ self.width) }
+    // Ends rounds one after the other while they are over, three at most, and counts them.
+    fn end_rounds(&mut self) -> u8
+        ensures ends { ends 3 self.old.ins.items (state self.old) ≡ ended_in self.new self.old.round result }
+        ensures count { (result ≤ 3) × (self.new.round ≡ self.old.round + result) }
+        ensures same { (self.new.ins ≡ self.old.ins) × (self.new.width ≡ self.old.width) }
     {
-        let mut slots = self;
-        let mut count = 0u8;
-        while count < 3 && slots.is_over() {
-            slots = slots.next();
-            count += 1;
+        for count in 0..3 {
+            if !self.is_over() {
+                return count;
+            }
+            self.next();
         }
-        (slots, count)
+        3
     }
 
     // Puts what comes in over link ins[i] into its slot, which has nothing of its round.
-    fn keep(self, i: usize, round: u32, bytes: &[u8]) -> Slots
-        requires link { i < vec_len self.ins }
-        requires window { (self.round ≤ round) × (round ≤ self.round + 2) }
-        requires free { slice_index self.tags.items (slot (vec_len self.ins) round i) ≢ round + 1 }
-        requires long { length bytes.now ≡ self.width * 1024 }
-        ensures state { state result ≡ keep (parcel (slice_index self.ins.items i) round (cut self.width bytes.now)) (state self) }
-        ensures same { (result.ins ≡ self.ins) × (result.width ≡ self.width) × (result.round ≡ self.round) }
+    fn keep(&mut self, i: usize, round: u32, bytes: &[u8])
+        requires link { i < vec_len self.old.ins }
+        requires window { (self.old.round ≤ round) × (round ≤ self.old.round + 2) }
+        requires free { slice_index_or self.old.tags.items (slot (vec_len self.old.ins) round i) None ≢ Some round }
+        requires long { length bytes.now ≡ self.old.width * 1024 }
+        ensures state { state self.new ≡ keep (parcel (slice_index self.old.ins.items i) round (cut self.old.width bytes.now)) (state self.old) }
+        ensures same { (self.new.ins ≡ self.old.ins) × (self.new.width ≡ self.old.width) × (self.new.round ≡ self.old.round) }
     {
-        let Slots {
-            ins,
-            width,
-            round: current,
-            mut tags,
-            mut packets,
-        } = self;
-        let slot = (round % 3) as usize * ins.len() + i;
-        tags[slot] = u64::from(round) + 1;
-        put(&mut packets, slot * width, width, bytes);
-        Slots {
-            ins,
-            width,
-            round: current,
-            tags,
-            packets,
-        }
+        let slot = (round % 3) as usize * self.ins.len() + i;
+        let first = slot * self.width;
+        let (packets, _) = bytes.as_chunks::<PACKET_LENGTH>();
+        self.tags[slot] = Some(u64::from(round));
+        self.packets[first..first + self.width].copy_from_slice(packets);
     }
 
-    // Takes in packets of a round that come over a link at once, by their bytes. Where they are refused, nothing changes.
-    pub fn take(self, link: u16, round: u32, bytes: &[u8]) -> (Slots, Outcome)
-        requires { length bytes.now ≡ self.width * 1024 }
-        ensures answer { Tells self result.0 result.1 (receive self.ins.items (state self) (parcel link round (cut self.width bytes.now))) }
-        ensures same { (result.0.ins ≡ self.ins) × (result.0.width ≡ self.width) }
+    // Takes in packets of a round that come over a link at once, by their bytes, and answers how many rounds end. Where they are refused,
+    // nothing changes.
+    pub fn take(&mut self, link: u16, round: u32, bytes: &[u8]) -> Result<u8, Refusal>
+        requires { length bytes.now ≡ self.old.width * 1024 }
+        ensures answer { Tells self.old self.new result (receive self.old.ins.items (state self.old) (parcel link round (cut self.old.width bytes.now))) }
+        ensures same { (self.new.ins ≡ self.old.ins) × (self.new.width ≡ self.old.width) }
     {
         let Some(i) = position(&self.ins, link) else {
-            return (self, Outcome::Refused(Refusal::Foreign));
+            return Err(Refusal::Foreign);
         };
         let number = u64::from(round);
         if number < self.round {
-            return (self, Outcome::Refused(Refusal::Late));
+            return Err(Refusal::Late);
         }
         if number > self.round + 2 {
-            return (self, Outcome::Refused(Refusal::Early));
+            return Err(Refusal::Early);
         }
         let slot = (round % 3) as usize * self.ins.len() + i;
-        if self.tags[slot] == number + 1 {
-            return (self, Outcome::Refused(Refusal::Late));
+        if self.tags[slot] == Some(number) {
+            return Err(Refusal::Late);
         }
-        let (slots, count) = self.keep(i, round, bytes).end_rounds();
-        (slots, Outcome::Taken(count))
-    }
-}
-
-// Puts packets, whose bytes stand one after the other, into the places from `first` on.
-fn put(packets: &mut Vec<Packet>, first: usize, count: usize, bytes: &[u8])
-    requires room { first + count ≤ vec_len packets.old }
-    requires long { length bytes.now ≡ count * 1024 }
-    requires few { count ≤ 32 }
-    ensures len { vec_len packets.new ≡ vec_len packets.old }
-    ensures new { (j : ℕ) → j < count → slice_index_or packets.new.items (first + j) [] ≡ part 1024 j bytes.now }
-    ensures below { (k : ℕ) → k < first → slice_index_or packets.new.items k [] ≡ slice_index_or packets.old.items k [] }
-    ensures above { (k : ℕ) → first + count ≤ k → slice_index_or packets.new.items k [] ≡ slice_index_or packets.old.items k [] }
-{
-    for j in 0..count {
-        let at = j * PACKET_LENGTH;
-        packets[first + j].copy_from_slice(&bytes[at..at + PACKET_LENGTH]);
+        self.keep(i, round, bytes);
+        Ok(self.end_rounds())
     }
 }

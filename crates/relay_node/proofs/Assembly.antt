@@ -1,60 +1,46 @@
 -- Lists out of which a node is put together, and what a plan that fits says of them.
-use Rattle.std.proofs.Common.{◌≡◌, ℕ, zero, suc, ◌+◌, ◌*◌, ◌<◌, ◌≤◌, true, false, cond, eqb, ◌⊎◌, List, [], ◌∷◌, ◌++◌, map, length, get_or, take, drop, vec_items, sym, refl, ap, ◌∙◌, subst, ap₂, inl, inr, append-nil, suc-mul, one-mul, zero-mul, mul-one, arith, length-append, drop-drop}
-use Rattle.std.specs.List.{range_with_len, flat_map, AllByRecursion}
-use Rattle.std.proofs.lemmas.List.FromFn.{fill_by_all}
+use Rattle.std.proofs.Common.{◌≡◌, ℕ, zero, suc, ◌+◌, ◌*◌, ◌<◌, ◌≤◌, Bool, true, false, cond, eqb, ◌⊎◌, List, [], ◌∷◌, ◌++◌, map, length, get_or, take, vec_items, vec_len, Vec, Some, None, Option, MatchOption, unwrap_or, sym, refl, ap, ◌∙◌, subst, ap₂, inl, inr, one-mul, mul-one, arith}
+use Rattle.std.specs.List.{AllByRecursion, AllZip}
+use Rattle.std.specs.declared.alloc.Global.{Global}
 use Rattle.std.proofs.ByRecursion.{All-get_or}
-use Rattle.std.proofs.lemmas.List.{get_or-map, length-map, take_at, drop_at, take_more, map_more, flat_map_more, length-take-le}
+use Rattle.std.proofs.lemmas.List.{get_or-map, length-map, map-append, take_more, map_more, length-take-le}
 use Rattle.std.proofs.lemmas.Bool.{cases_Bool, cases_eq, eq-eqb, ne_eqb, or_left, or_right, or_parts}
 use Rattle.gf.proofs.Fields.{byte_field}
 use Rattle.linear.specs.Vectors.{row as row_at}
 use Rattle.linear.specs.Reading.{read_by}
-use Rattle.network.specs.Network.{Link, Multicast, link_at, paired, Rising, Accepted}
-use Rattle.network.specs.Values.{graph}
-use Rattle.network.specs.declared.net.Network.{Network as Columns}
-use Rattle.network.proofs.Sound.{level}
+use Rattle.network.specs.Network.{Link, Multicast, link_at, Rising, Accepted}
+use Rattle.network.specs.Links.{link_of, links_of}
+use Rattle.network.specs.declared.net.Link.{Link as Joined}
 use Rattle.network_cuts.specs.Scheme.{Packet}
 use Rattle.wire.specs.Plan.{Reader, served, feeding, hand_at, Comes, Matched, Suits, Fits}
 use Rattle.relay_theory.specs.Relay.{is_in, numbers}
 use Rattle.relay_theory.proofs.Finds.{numbers-in, numbers-at}
 use Rattle.run_theory.specs.Run.{ins, outs}
 use Rattle.delivery_theory.specs.Work.{place, read_from, reader_for}
-use Rattle.relay_memory.specs.Memory.{part}
-use Rattle.relay_node.specs.Assembly.{occurring, picked, current}
+use Rattle.relay_node.specs.Assembly.{passing, picked, current}
 use Rattle.relay_node.specs.Nodes.{width, entries}
-use Rattle.relay_memory.proofs.Memory.{in-at, at_in}
+use Rattle.relay_node.specs.Values.{coefficients_of}
+use Rattle.relay_node.specs.declared.node.Out.{Out}
+use Rattle.relay_memory.proofs.Memory.{in-at, at_in, place_at}
 
 -- WHERE A NUMBER STANDS
 
-pub occurring-more : (p k : ℕ) (xs : List ℕ) (x : ℕ) → occurring p k (xs ++ x ∷ []) ≡ occurring p k xs ++ cond (eqb p x) ((k + length xs) ∷ []) []
-unfolding occurring
-occurring-more p k [] x = let z : k + 0 ≡ k = omega arith in rw z refl
-occurring-more p k (y ∷ xs) x =
+passing-more : {A : Type 0} (test : A → Bool) (k : ℕ) (xs : List A) (x : A) → passing test k (xs ++ x ∷ []) ≡ passing test k xs ++ cond (test x) ((k + length xs) ∷ []) []
+unfolding passing
+passing-more test k [] x = let z : k + 0 ≡ k = omega arith in rw z refl
+passing-more test k (y ∷ xs) x =
     let z : k + 1 + length xs ≡ k + suc (length xs) = omega arith in
-    let r : occurring p (k + 1) (xs ++ x ∷ []) ≡ occurring p (k + 1) xs ++ cond (eqb p x) ((k + suc (length xs)) ∷ []) [] = rw z at (occurring-more p (k + 1) xs x) in
-    elim (eqb p y) as (λ v. cond v (k ∷ occurring p (k + 1) (xs ++ x ∷ [])) (occurring p (k + 1) (xs ++ x ∷ [])) ≡ cond v (k ∷ occurring p (k + 1) xs) (occurring p (k + 1) xs) ++ cond (eqb p x) ((k + suc (length xs)) ∷ []) []) [
+    let r : passing test (k + 1) (xs ++ x ∷ []) ≡ passing test (k + 1) xs ++ cond (test x) ((k + suc (length xs)) ∷ []) [] = rw z at (passing-more test (k + 1) xs x) in
+    elim (test y) as (λ v. cond v (k ∷ passing test (k + 1) (xs ++ x ∷ [])) (passing test (k + 1) (xs ++ x ∷ [])) ≡ cond v (k ∷ passing test (k + 1) xs) (passing test (k + 1) xs) ++ cond (test x) ((k + suc (length xs)) ∷ []) []) [
       | true ↦ ap (λ l. k ∷ l) r
       | false ↦ r
     ]
 
-numbers-to : (p k : ℕ) (fs ts : List ℕ) → length ts ≡ length fs → numbers (λ l. l.to) p k (paired fs ts) ≡ occurring p k ts
-unfolding numbers paired occurring
-numbers-to p k [] [] e = refl
-numbers-to p k [] (t ∷ ts) e = absurd (omega arith)
-numbers-to p k (f ∷ fs) [] e = absurd (omega arith)
-numbers-to p k (f ∷ fs) (t ∷ ts) e = ap (λ l. cond (eqb p t) (k ∷ l) l) (numbers-to p (k + 1) fs ts (omega arith))
-
-numbers-from : (p k : ℕ) (fs ts : List ℕ) → length ts ≡ length fs → numbers (λ l. l.from) p k (paired fs ts) ≡ occurring p k fs
-unfolding numbers paired occurring
-numbers-from p k [] [] e = refl
-numbers-from p k [] (t ∷ ts) e = absurd (omega arith)
-numbers-from p k (f ∷ fs) [] e = absurd (omega arith)
-numbers-from p k (f ∷ fs) (t ∷ ts) e = ap (λ l. cond (eqb p f) (k ∷ l) l) (numbers-from p (k + 1) fs ts (omega arith))
-
-pub into-node : (z : Columns) (p : ℕ) → occurring p 0 (vec_items z.to) ≡ ins (graph z) p
-into-node z p = sym (numbers-to p 0 (vec_items z.from) (vec_items z.to) (level z))
-
-pub out-of-node : (z : Columns) (p : ℕ) → occurring p 0 (vec_items z.from) ≡ outs (graph z) p
-out-of-node z p = sym (numbers-from p 0 (vec_items z.from) (vec_items z.to) (level z))
+-- the links at a node, by a test of one end
+pub passing-numbers : (end : Link → ℕ) (p k : ℕ) (ls : List Joined) → passing (λ l. eqb p (end (link_of l))) k ls ≡ numbers end p k (links_of ls)
+unfolding passing numbers
+passing-numbers end p k [] = refl
+passing-numbers end p k (l ∷ ls) = ap (λ ks. cond (eqb p (end (link_of l))) (k ∷ ks) ks) (passing-numbers end p (k + 1) ls)
 
 -- the links at a node rise, and there are no more of them than links
 module _ (end : Link → ℕ) (p : ℕ) where
@@ -92,20 +78,23 @@ place_none k (j ∷ ks) h =
     let r : place k ks ≡ length ks = place_none k ks o.1 in
     rw o.0 (omega arith)
 
--- ROWS SIDE BY SIDE
+-- the coefficients of a link
+coefficients-place : (k : ℕ) (os : List Out) → coefficients_of k os ≡ get_or (map (λ o. vec_items o.coefficients) os) (place k (map (λ o. o.link) os)) []
+unfolding coefficients_of place
+coefficients-place k [] = refl
+coefficients-place k (o ∷ os) =
+    let n : 1 + place k (map (λ o. o.link) os) ≡ suc (place k (map (λ o. o.link) os)) = omega arith in
+    elim (eqb k o.link) as (λ b. cond b (vec_items o.coefficients) (coefficients_of k os) ≡ get_or (vec_items o.coefficients ∷ map (λ o. vec_items o.coefficients) os) (cond b 0 (1 + place k (map (λ o. o.link) os))) []) [
+      | true ↦ refl
+      | false ↦ rw n (coefficients-place k os)
+    ]
 
-pub length-joined : {A : Type 0} (w : ℕ) (xss : List (List A)) → AllByRecursion (λ xs. length xs ≡ w) xss → length (flat_map (λ q. q) xss) ≡ length xss * w
-length-joined w [] h = sym (zero-mul w)
-length-joined w (xs ∷ xss) h = length-append xs (flat_map (λ q. q) xss) ∙ omega (arith, h.0, length-joined w xss h.1, suc-mul (length xss) w)
-
-pub part-joined : {A : Type 0} (w : ℕ) (xss : List (List A)) (j : ℕ) → AllByRecursion (λ xs. length xs ≡ w) xss → j < length xss → part w j (flat_map (λ q. q) xss) ≡ get_or xss j []
-part-joined w [] j h l = absurd (omega arith)
-part-joined w (xs ∷ xss) zero h l = rw (zero-mul w) (take_at xs (flat_map (λ q. q) xss) w h.0)
-part-joined w (xs ∷ xss) (suc j) h l =
-    let e : suc j * w ≡ w + j * w = omega (arith, suc-mul j w) in
-    ap (λ n. take w (drop n (xs ++ flat_map (λ q. q) xss))) e
-    ∙ ap (take w) (sym (drop-drop (j * w) w (xs ++ flat_map (λ q. q) xss)) ∙ ap (drop (j * w)) (drop_at xs (flat_map (λ q. q) xss) w h.0))
-    ∙ part-joined w xss j h.1 (omega arith)
+-- where links rise, the coefficients of each are its own
+pub coefficients-at : (os : List Out) → Rising (length os) (λ i. get_or (map (λ o. o.link) os) i 0) → (i : ℕ) (o : Out) → i < length os → o ≡ get_or os i o → coefficients_of o.link os ≡ vec_items o.coefficients
+coefficients-at os r i o l e =
+    let k : get_or (map (λ o. o.link) os) i 0 ≡ o.link = get_or-map (λ o. o.link) os i o 0 l ∙ ap (λ o. o.link) (sym e) in
+    let q : place o.link (map (λ o. o.link) os) ≡ i = place_at (map (λ o. o.link) os) (λ a b h m. r a b h (omega (arith, length-map os (λ o. o.link)))) o.link i (omega (arith, length-map os (λ o. o.link))) k in
+    coefficients-place o.link os ∙ ap (λ j. get_or (map (λ o. vec_items o.coefficients) os) j []) q ∙ get_or-map (λ o. vec_items o.coefficients) os i o [] l ∙ ap (λ o. vec_items o.coefficients) (sym e)
 
 -- WHAT FITS
 
@@ -191,14 +180,20 @@ module _ (m : Multicast) (cs : List (List ℕ)) (rs : List Reader) (fits : Fits 
   rows_long : AllByRecursion (λ q. length q ≡ length (entries m p) * width m p) (picked cs (outs m.network p))
   rows_long = all-picked (outs m.network p) (λ k h. let a = out_at k h in row-long k a.0 a.1)
 
-  pub coded : length (flat_map (λ q. q) (picked cs (outs m.network p))) ≡ length (outs m.network p) * (length (entries m p) * width m p)
-  coded = length-joined _ (picked cs (outs m.network p)) rows_long ∙ ap (λ n. n * (length (entries m p) * width m p)) (length-map (outs m.network p) (λ k. row_at cs k))
+  -- the links that go out carry what the plan says
+  module _ (os : List Out) (go : map (λ o. o.link) os ≡ outs m.network p) (coeffs : map (λ o. vec_items o.coefficients) os ≡ picked cs (outs m.network p)) where
+    pub coded : (i : ℕ) (d : Out) → i < length os → vec_len (get_or os i d).coefficients ≡ length (entries m p) * width m p
+    coded i d l =
+        let n : i < length (picked cs (outs m.network p)) = omega (arith, ap length coeffs, length-map os (λ o. vec_items o.coefficients)) in
+        (get_or os i d).coefficients.ok.0 ∙ ap length (sym (get_or-map (λ o. vec_items o.coefficients) os i d [] l) ∙ ap (λ rows. get_or rows i []) coeffs)
+        ∙ All-get_or (λ q. length q ≡ length (entries m p) * width m p) (picked cs (outs m.network p)) i [] n rows_long
 
-  pub sends : (k : ℕ) → is_in k (outs m.network p) ≡ true → part (length (entries m p) * width m p) (place k (outs m.network p)) (flat_map (λ q. q) (picked cs (outs m.network p))) ≡ row_at cs k
-  sends k h =
-      let a = at_in k (outs m.network p) h in
-      part-joined _ (picked cs (outs m.network p)) (place k (outs m.network p)) rows_long (omega (arith, a.0, length-map (outs m.network p) (λ k. row_at cs k)))
-      ∙ get_or-map (λ k. row_at cs k) (outs m.network p) (place k (outs m.network p)) 0 [] a.0 ∙ ap (row_at cs) a.1
+    pub sends : (k : ℕ) → is_in k (outs m.network p) ≡ true → coefficients_of k os ≡ row_at cs k
+    sends k h =
+        let a = at_in k (outs m.network p) h in
+        coefficients-place k os
+        ∙ ap₂ (λ rows ks. get_or rows (place k ks) []) coeffs go
+        ∙ get_or-map (λ k. row_at cs k) (outs m.network p) (place k (outs m.network p)) 0 [] a.0 ∙ ap (row_at cs) a.1
 
   -- what the receiver there reads by
   abbrev pub reader : Reader
@@ -237,57 +232,60 @@ module _ (m : Multicast) (cs : List (List ℕ)) (rs : List Reader) (fits : Fits 
             rw (ne_eqb p 0 e, get_or-map (λ k. place k (ins m.network p)) reader.links i 0 0 n, mul-one (length (ins m.network p))) a.0
       ]
 
-  pub square : length (flat_map (λ q. q) reader.rows) ≡ length standing * length standing
-  square =
-      let s = suits.1 in
-      length-joined suits.0 reader.rows s.long ∙ ap₂ (λ a b. a * b) (s.square ∙ sym standing-long) (sym standing-long)
+  -- rs: the rows as the node has them
+  module _ (rows : List (Vec ℕ Global)) (e : map vec_items rows ≡ reader.rows) where
+    pub square : length rows ≡ length standing
+    square = sym (length-map rows vec_items) ∙ ap length e ∙ suits.1.square ∙ sym standing-long
+
+    pub long : (j : ℕ) (d : Vec ℕ Global) → j < length rows → vec_len (get_or rows j d) ≡ length standing
+    long j d l =
+        let n : j < length reader.rows = omega (arith, ap length e, length-map rows (λ v. vec_items v)) in
+        (get_or rows j d).ok.0 ∙ ap length (sym (get_or-map vec_items rows j d [] l) ∙ ap (λ qs. get_or qs j []) e)
+        ∙ All-get_or (λ row. length row ≡ suits.0) reader.rows j [] n suits.1.long ∙ sym standing-long
 
   map-map : (bs : List Packet) (ks : List ℕ) → map (λ i. row_at bs i) (map (λ k. place k (ins m.network p)) ks) ≡ map (λ k. row_at bs (place k (ins m.network p))) ks
   map-map bs [] = refl
   map-map bs (k ∷ ks) = ap (λ l. row_at bs (place k (ins m.network p)) ∷ l) (map-map bs ks)
 
-  rows_back : map (λ j. part (length standing) j (flat_map (λ q. q) reader.rows)) (range_with_len 0 (length standing)) ≡ reader.rows
-  rows_back =
-      let s = suits.1 in
-      sym (fill_by_all (λ j. part (length standing) j (flat_map (λ q. q) reader.rows)) reader.rows (length standing) [] (s.square ∙ sym standing-long)
-      (λ j l. sym (part-joined (length standing) reader.rows j (subst (λ n. AllByRecursion (λ row. length row ≡ n) reader.rows) (sym standing-long) s.long) (omega (arith, s.square, standing-long)))))
+  pub reads : (bs : List Packet) → read_by byte_field 1024 reader.rows (map (λ i. row_at bs i) standing) ≡ read_from (ins m.network p) (reader_for p m.receivers rs) bs
+  reads bs = ap (read_by byte_field 1024 reader.rows) (map-map bs reader.links)
 
-  pub reads : (bs : List Packet) → read_by byte_field 1024 (map (λ j. part (length standing) j (flat_map (λ q. q) reader.rows)) (range_with_len 0 (length standing))) (map (λ i. row_at bs i) standing) ≡ read_from (ins m.network p) (reader_for p m.receivers rs) bs
-  reads bs = ap₂ (read_by byte_field 1024) rows_back (map-map bs reader.links)
+-- where a link stands, or behind all
+pub placed : (k : ℕ) (ks : List ℕ) (o : Option ℕ) → MatchOption o (is_in k ks ≡ false) (λ i. (i < length ks) × (get_or ks i 0 ≡ k) × (i ≡ place k ks)) → unwrap_or o (length ks) ≡ place k ks
+placed k ks None h = sym (place_none k ks h)
+placed k ks (Some i) h = h.2
 
 -- THE LOOPS
 
-occurring-none : (p k : ℕ) → occurring p k [] ≡ []
-unfolding occurring
-occurring-none p k = refl
+pub passing-none : {A : Type 0} (test : A → Bool) (k : ℕ) → passing test k [] ≡ []
+unfolding passing
+passing-none test k = refl
 
-pub places-none : (p : ℕ) (found : List ℕ) → found ≡ [] → found ≡ occurring p 0 []
-places-none p found e = e ∙ sym (occurring-none p 0)
+-- one element more is tested
+pub passes-more : {A : Type 0} (test : A → Bool) (xs : List A) (i : ℕ) (x : A) (b : Bool) (old new : List ℕ) → i < length xs → x ≡ get_or xs i x → b ≡ test x → old ≡ passing test 0 (take i xs) → new ≡ old ++ cond b (i ∷ []) [] → new ≡ passing test 0 (take (i + 1) xs)
+passes-more test xs i x b old new l is t before e =
+    let z : 0 + length (take i xs) ≡ i = omega (arith, length-take-le i xs (omega arith)) in
+    e ∙ ap₂ (λ o v. o ++ cond v (i ∷ []) []) before t
+    ∙ sym (ap (passing test 0) (take_more xs i x l ∙ ap (λ y. take i xs ++ y ∷ []) (sym is)) ∙ passing-more test 0 (take i xs) x ∙ ap (λ k. passing test 0 (take i xs) ++ cond (test x) (k ∷ []) []) z)
 
-module _ (p : ℕ) (xs : List ℕ) (i : ℕ) (l : i < length xs) (old new : List ℕ) (before : old ≡ occurring p 0 (take i xs)) where
-  places-more : occurring p 0 (take (i + 1) xs) ≡ occurring p 0 (take i xs) ++ cond (eqb p (get_or xs i 0)) (i ∷ []) []
-  places-more =
-      let e : 0 + length (take i xs) ≡ i = omega (arith, length-take-le i xs (omega arith)) in
-      ap (occurring p 0) (take_more xs i 0 l) ∙ occurring-more p 0 (take i xs) (get_or xs i 0) ∙ ap (λ k. occurring p 0 (take i xs) ++ cond (eqb p (get_or xs i 0)) (k ∷ []) []) e
+-- rows that are copied
+pub copied : (xs ys : List ℕ) → AllZip (λ x y. y ≡ x) xs ys → ys ≡ xs
+copied [] [] h = refl
+copied [] (y ∷ ys) h = absurd h
+copied (x ∷ xs) [] h = absurd h
+copied (x ∷ xs) (y ∷ ys) h = ap₂ (λ a b. a ∷ b) h.0 (copied xs ys h.1)
 
-  pub places-hit : get_or xs i 0 ≡ p → new ≡ old ++ i ∷ [] → new ≡ occurring p 0 (take (i + 1) xs)
-  places-hit h e = e ∙ ap (λ o. o ++ i ∷ []) before ∙ sym (places-more ∙ ap (λ b. occurring p 0 (take i xs) ++ cond b (i ∷ []) []) (eq-eqb p (get_or xs i 0) (sym h)))
+pub rows-copied : (xs ys : List (Vec ℕ Global)) → AllZip (λ v w. AllZip (λ x y. y ≡ x) (vec_items v) (vec_items w) × (vec_len w ≡ vec_len v)) xs ys → map vec_items ys ≡ map vec_items xs
+rows-copied [] [] h = refl
+rows-copied [] (y ∷ ys) h = absurd h
+rows-copied (x ∷ xs) [] h = absurd h
+rows-copied (x ∷ xs) (y ∷ ys) h = ap₂ (λ a b. a ∷ b) (copied (vec_items x) (vec_items y) h.0.0) (rows-copied xs ys h.1)
 
-  pub places-miss : (get_or xs i 0 ≡ p → ⊥) → new ≡ old → new ≡ occurring p 0 (take (i + 1) xs)
-  places-miss h e = e ∙ before ∙ sym (places-more ∙ ap (λ b. occurring p 0 (take i xs) ++ cond b (i ∷ []) []) (ne_eqb p (get_or xs i 0) (λ q. h (sym q))) ∙ append-nil (occurring p 0 (take i xs)))
-
-pub positions-more : (js links : List ℕ) (i at : ℕ) (old new : List ℕ) → i < length links → old ≡ current js (take i links) → new ≡ old ++ at ∷ [] → at ≡ place (get_or links i 0) js → new ≡ current js (take (i + 1) links)
-positions-more js links i at old new l before e h =
-    e ∙ ap₂ (λ o a. o ++ a ∷ []) before h ∙ sym (map_more (λ k. place k js) links i 0 l)
-
--- one row more; x: the element of xs that it is made from
-pub join_more : {X : Type 0} (f : X → List ℕ) (xs : List X) (i : ℕ) (x : X) (old new : List ℕ) → i < length xs → x ≡ get_or xs i x → old ≡ flat_map (λ q. q) (map f (take i xs)) → new ≡ old ++ f x → new ≡ flat_map (λ q. q) (map f (take (i + 1) xs))
-join_more f xs i x old new l is before e =
-    e ∙ ap₂ (λ o q. o ++ q) before (ap f is) ∙ flat_map_more (λ q. q) [] (map f (take i xs)) (f (get_or xs i x)) ∙ sym (ap (flat_map (λ q. q)) (map_more f xs i x l))
-
-pub pick_more : {X : Type 0} (f : X → List ℕ) (xs : List X) (which : List ℕ) (i : ℕ) (x : X) (old new : List ℕ) → i < length which → get_or which i 0 < length xs → x ≡ get_or xs (get_or which i 0) x
-    → old ≡ flat_map (λ q. q) (picked (map f xs) (take i which)) → new ≡ old ++ f x → new ≡ flat_map (λ q. q) (picked (map f xs) (take (i + 1) which))
-pick_more f xs which i x old new l within is before e =
-    e ∙ ap₂ (λ o q. o ++ q) before (ap f is ∙ sym (get_or-map f xs (get_or which i 0) x [] within))
-    ∙ flat_map_more (λ q. q) [] (picked (map f xs) (take i which)) (row_at (map f xs) (get_or which i 0))
-    ∙ sym (ap (flat_map (λ q. q)) (map_more (λ k. row_at (map f xs) k) which i 0 l))
+-- one link more goes out
+pub goes-more : (rows : List (List ℕ)) (which : List ℕ) (i : ℕ) (old new : List Out) (o : Out) → i < length which → new ≡ old ++ o ∷ []
+    → (o.link ≡ get_or which i 0 → map (λ o. o.link) old ≡ take i which → map (λ o. o.link) new ≡ take (i + 1) which)
+    × (vec_items o.coefficients ≡ row_at rows (get_or which i 0) → map (λ o. vec_items o.coefficients) old ≡ picked rows (take i which) → map (λ o. vec_items o.coefficients) new ≡ picked rows (take (i + 1) which))
+goes-more rows which i old new o l e = (
+  λ k h. ap (map (λ o. o.link)) e ∙ map-append (λ o. o.link) old (o ∷ []) ∙ ap₂ (λ ks k. ks ++ k ∷ []) h k ∙ sym (take_more which i 0 l),
+  λ k h. ap (map (λ o. vec_items o.coefficients)) e ∙ map-append (λ o. vec_items o.coefficients) old (o ∷ []) ∙ ap₂ (λ ks k. ks ++ k ∷ []) h k ∙ sym (map_more (λ k. row_at rows k) which i 0 l),
+)

@@ -1,8 +1,10 @@
 -- Records: heads of fixed length, behind which the packet or the message lies.
-use Rattle.std.proofs.Common.{◌≡◌, ℕ, ◌+◌, ◌*◌, ◌<◌, ◌≤◌, Bool, true, false, cond, ◌&&◌, eqb, ltb, List, [], ◌∷◌, ◌++◌, length, get_or, take, drop, set, sym, refl, ap, ◌∙◌, subst, ap₂, inl, inr, append-nil, arith}
+use Rattle.std.proofs.Common.{◌≡◌, ℕ, zero, suc, ◌+◌, ◌*◌, ◌/◌, ◌%◌, ◌<◌, Bool, true, false, cond, ◌&&◌, eqb, ltb, List, [], ◌∷◌, ◌++◌, length, get_or, take, drop, set, Result, w16, w32, sym, refl, ap, ◌∙◌, subst, ap₂, inl, inr, append-nil, suc-mul, zero-mul, arith, length-append, drop-drop}
 use Rattle.std.specs.List.{flat_map, AllByRecursion}
+use Rattle.std.specs.Simd.{first_chunks}
+use Rattle.std.specs.Int.{from_be_bytes, to_be_bytes}
 use borrow.Rule.Slice.PartMut.{put_mid}
-use Rattle.std.proofs.lemmas.List.{drop_all, length-drop}
+use Rattle.std.proofs.lemmas.List.{drop_all, take_all, length-drop, take_at, drop_at}
 use Rattle.std.proofs.lemmas.List.FromFn.{fill_by_all}
 use Rattle.std.proofs.lemmas.Bool.{cases_Bool, cases_eq, eq-eqb, ne_eqb, eqb-true, lt-ltb, ltb-true, and_from, and_parts, and_left, cond-true, cond-false}
 use Rattle.octets.specs.Words.{word_at}
@@ -12,12 +14,12 @@ use Rattle.relay_memory.specs.Memory.{part, cut}
 use Rattle.relay_memory.specs.Values.{parcel, Tells}
 use Rattle.relay_node.specs.Steps.{take_packet, take_message}
 use Rattle.relay_node.specs.Records.{long_at, packet_record, message_record, take_record, ReadBack}
-use Rattle.relay_memory.specs.declared.outcome.Outcome.{Outcome}
+use Rattle.relay_memory.specs.declared.refusal.Refusal.{Refusal}
 use Rattle.relay_memory.specs.declared.slots.Slots.{Slots}
-use Rattle.relay_node.proofs.Assembly.{length-joined, part-joined}
 
-pub long-read : (bs : List ℕ) (at a b : ℕ) → a ≡ word_at bs at → b ≡ word_at bs (at + 2) → a * 65536 + b ≡ long_at bs at
-long-read bs at a b e f = omega (arith, e, f)
+pub long-read : (bs : List ℕ) (at : ℕ) → from_be_bytes w32 (get_or bs at 0 ∷ get_or bs (at + 1) 0 ∷ get_or bs (at + 2) 0 ∷ get_or bs (at + 3) 0 ∷ []) ≡ long_at bs at
+unfolding word_at
+long-read bs at = let e : at + 2 + 1 ≡ at + 3 = omega arith in rw e (omega arith)
 
 pub word_read : (bs : List ℕ) (i : ℕ) → 256 * get_or bs i 0 + get_or bs (i + 1) 0 ≡ word_at bs i
 unfolding word_at
@@ -36,6 +38,19 @@ module _ (link round : ℕ) (rest : List ℕ) where
 message-round : (round : ℕ) (ps : List Packet) → long_at (message_record round ps) 1 ≡ round
 unfolding word_at
 message-round round ps = omega arith
+
+length-joined : {A : Type 0} (w : ℕ) (xss : List (List A)) → AllByRecursion (λ xs. length xs ≡ w) xss → length (flat_map (λ q. q) xss) ≡ length xss * w
+length-joined w [] h = sym (zero-mul w)
+length-joined w (xs ∷ xss) h = length-append xs (flat_map (λ q. q) xss) ∙ omega (arith, h.0, length-joined w xss h.1, suc-mul (length xss) w)
+
+part-joined : {A : Type 0} (w : ℕ) (xss : List (List A)) (j : ℕ) → AllByRecursion (λ xs. length xs ≡ w) xss → j < length xss → part w j (flat_map (λ q. q) xss) ≡ get_or xss j []
+part-joined w [] j h l = absurd (omega arith)
+part-joined w (xs ∷ xss) zero h l = rw (zero-mul w) (take_at xs (flat_map (λ q. q) xss) w h.0)
+part-joined w (xs ∷ xss) (suc j) h l =
+    let e : suc j * w ≡ w + j * w = omega (arith, suc-mul j w) in
+    ap (λ n. take w (drop n (xs ++ flat_map (λ q. q) xss))) e
+    ∙ ap (take w) (sym (drop-drop (j * w) w (xs ++ flat_map (λ q. q) xss)) ∙ ap (drop (j * w)) (drop_at xs (flat_map (λ q. q) xss) w h.0))
+    ∙ part-joined w xss j h.1 (omega arith)
 
 -- packets that are joined are cut again
 cut-joined : (ps : List Packet) → AllByRecursion (λ p. length p ≡ 1024) ps → cut (length ps) (flat_map (λ p. p) ps) ≡ ps
@@ -91,22 +106,29 @@ module _ (source : Bool) (h : ℕ) (ins : List ℕ) (s : State (List Packet)) wh
 pub read_back : ReadBack
 read_back = record { packets = packets-back; messages = messages-back }
 
--- what is written
-pub head-written : (xs : List ℕ) (a b c d e f g : ℕ) → 7 ≤ length xs → take 7 (set (set (set (set (set (set (set xs 0 a) 1 b) 2 c) 3 d) 4 e) 5 f) 6 g) ≡ a ∷ b ∷ c ∷ d ∷ e ∷ f ∷ g ∷ []
-head-written [] a b c d e f g l = absurd (omega arith)
-head-written (x ∷ []) a b c d e f g l = absurd (omega arith)
-head-written (x ∷ x1 ∷ []) a b c d e f g l = absurd (omega arith)
-head-written (x ∷ x1 ∷ x2 ∷ []) a b c d e f g l = absurd (omega arith)
-head-written (x ∷ x1 ∷ x2 ∷ x3 ∷ []) a b c d e f g l = absurd (omega arith)
-head-written (x ∷ x1 ∷ x2 ∷ x3 ∷ x4 ∷ []) a b c d e f g l = absurd (omega arith)
-head-written (x ∷ x1 ∷ x2 ∷ x3 ∷ x4 ∷ x5 ∷ []) a b c d e f g l = absurd (omega arith)
-head-written (x ∷ x1 ∷ x2 ∷ x3 ∷ x4 ∷ x5 ∷ x6 ∷ xs) a b c d e f g l = refl
+-- the packet behind the head, as the code takes it
+pub packet-behind : (bs ys : List ℕ) (ps : List Packet) → length bs ≡ 1031 → ys ≡ drop 7 bs → ps ≡ first_chunks 1024 (length ys / 1024) ys → get_or ps 0 [] ≡ drop 7 bs
+packet-behind bs ys ps l e f =
+    let long : length ys ≡ 1024 = omega (arith, ap length e, length-drop 7 bs) in
+    let one : length ys / 1024 ≡ 1 = omega arith in
+    ap (λ qs. get_or qs 0 []) (f ∙ ap (λ m. first_chunks 1024 m ys) one) ∙ take_all 1024 ys (omega arith) ∙ e
 
--- a head of seven bytes is in place, and the packet is put behind it
-pub record-written : (head filled packet copied : List ℕ) → length filled ≡ 1031 → take 7 filled ≡ head → copied ≡ packet → put_mid 7 1024 filled copied ≡ head ++ packet
-record-written head filled packet copied l e f =
-    let none : drop 1024 (drop 7 filled) ≡ [] = drop_all 1024 (drop 7 filled) (simp length-drop (omega arith)) in
-    ap₂ (λ a b. a ++ (copied ++ b)) e none ∙ ap (λ b. head ++ b) (append-nil copied ∙ f)
+-- what is written: the bytes of numbers, and a packet behind a head of seven bytes
+pub word-written : (n : ℕ) → n < 65536 → to_be_bytes w16 n ≡ n / 256 ∷ n % 256 ∷ []
+word-written n l = ap₂ (λ a b. a ∷ b ∷ []) (omega arith) (omega arith)
 
-pub told : (before after : Slots) (o : Outcome) (a b : Answer (List Packet)) → a ≡ b → Tells before after o a → Tells before after o b
+pub long-written : (n : ℕ) → n < 4294967296 → to_be_bytes w32 n ≡ n / 65536 / 256 ∷ n / 65536 % 256 ∷ n % 65536 / 256 ∷ n % 65536 % 256 ∷ []
+long-written n l = ap₂ (λ a b. a ++ b) (ap₂ (λ a b. a ∷ b ∷ []) (omega arith) (omega arith)) (ap₂ (λ a b. a ∷ b ∷ []) (omega arith) (omega arith))
+
+pub record-written : (xs : List ℕ) (k a b c d e f : ℕ) (packet : List ℕ) → length xs ≡ 1031 → put_mid 7 1024 (put_mid 3 4 (put_mid 1 2 (set xs 0 k) (a ∷ b ∷ [])) (c ∷ d ∷ e ∷ f ∷ [])) packet ≡ k ∷ a ∷ b ∷ c ∷ d ∷ e ∷ f ∷ packet
+record-written [] k a b c d e f packet l = absurd (omega arith)
+record-written (x ∷ []) k a b c d e f packet l = absurd (omega arith)
+record-written (x ∷ x1 ∷ []) k a b c d e f packet l = absurd (omega arith)
+record-written (x ∷ x1 ∷ x2 ∷ []) k a b c d e f packet l = absurd (omega arith)
+record-written (x ∷ x1 ∷ x2 ∷ x3 ∷ []) k a b c d e f packet l = absurd (omega arith)
+record-written (x ∷ x1 ∷ x2 ∷ x3 ∷ x4 ∷ []) k a b c d e f packet l = absurd (omega arith)
+record-written (x ∷ x1 ∷ x2 ∷ x3 ∷ x4 ∷ x5 ∷ []) k a b c d e f packet l = absurd (omega arith)
+record-written (x ∷ x1 ∷ x2 ∷ x3 ∷ x4 ∷ x5 ∷ x6 ∷ xs) k a b c d e f packet l = ap (λ l. k ∷ a ∷ b ∷ c ∷ d ∷ e ∷ f ∷ l) (ap (λ l. packet ++ l) (drop_all 1024 xs (omega arith)) ∙ append-nil packet)
+
+pub told : (before after : Slots) (o : Result ℕ Refusal) (a b : Answer (List Packet)) → a ≡ b → Tells before after o a → Tells before after o b
 told before after o a b e h = subst (Tells before after o) e h

@@ -5,3 +5,4 @@ pub mod Sums
 pub mod Mixes
 pub mod Heads
 pub mod Relays
+pub mod Packets

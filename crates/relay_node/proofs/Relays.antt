@@ -1,5 +1,5 @@
 -- What is told of a node at work by a plan is what the definitions of relays and runs say.
-use Rattle.std.proofs.Common.{◌≡◌, ℕ, ◌+◌, ◌*◌, true, false, cond, ◌&&◌, eqb, List, [], ◌∷◌, ◌++◌, map, length, vec_items, sym, refl, ap, ◌∙◌, subst, ap₂, arith}
+use Rattle.std.proofs.Common.{◌≡◌, ℕ, ◌+◌, ◌*◌, true, false, cond, ◌&&◌, eqb, List, [], ◌∷◌, ◌++◌, map, length, Ok, Err, Result, vec_items, sym, refl, ap, ◌∙◌, subst, ap₂, arith}
 use Rattle.std.specs.List.{flat_map}
 use Rattle.std.proofs.lemmas.Bool.{eq-eqb, ne_eqb, or_left, or_right, cond-true, cond-false}
 use Rattle.network.specs.Network.{Multicast}
@@ -15,11 +15,10 @@ use Rattle.delivery_theory.specs.Work.{working, reading}
 use Rattle.relay_memory.specs.Memory.{cut}
 use Rattle.relay_memory.specs.Refusals.{number}
 use Rattle.relay_memory.specs.Values.{parcel, state, ended_in, Tells}
-use Rattle.relay_memory.specs.declared.outcome.Outcome.{Outcome}
-use Rattle.relay_memory.specs.declared.outcome.Outcome.TheVariants.{Refused, Taken}
+use Rattle.relay_memory.specs.declared.refusal.Refusal.{Refusal}
 use Rattle.relay_node.specs.Nodes.{Works}
 use Rattle.relay_node.specs.Steps.{take_packet, take_message}
-use Rattle.relay_node.specs.Values.{scheme, reading as reading_of}
+use Rattle.relay_node.specs.Values.{goes, scheme, reading as reading_of}
 use Rattle.relay_node.specs.Relays.{recent, sending, Relayed, Relays, Sources}
 use Rattle.relay_node.specs.declared.node.Node.{Node}
 use Rattle.relay_node.proofs.Assembled.{works-on}
@@ -42,7 +41,7 @@ readings-like f g (o ∷ os) h = ap₂ (λ a b. a ∷ b) (h o.came) (readings-li
 
 module _ (m : Multicast) (cs : List (List ℕ)) (rs : List Reader) (p : ℕ) (d : Node) (w : Works m cs rs p d) where
   -- by its own coefficients and rows, or by the plan's
-  sends-so : (os : List (Over (List Packet))) → sent (at_source (scheme d)) (vec_items d.outs) os ≡ sent (at_source (working cs)) (outs m.network p) os
+  sends-so : (os : List (Over (List Packet))) → sent (at_source (scheme d)) (goes d) os ≡ sent (at_source (working cs)) (outs m.network p) os
   sends-so os =
       ap (λ ks. sent (at_source (scheme d)) ks os) w.goes
       ∙ sent-like (at_source (scheme d)) (at_source (working cs)) (outs m.network p) os (λ k ms t. w.sends k t (flat_map (λ b. b) ms))
@@ -51,17 +50,17 @@ module _ (m : Multicast) (cs : List (List ℕ)) (rs : List Reader) (p : ℕ) (d 
   puts-so os = readings-like (λ ms. reading_of d (flat_map (λ b. b) ms)) (λ ms. reading m rs p (flat_map (λ b. b) ms)) os (λ ms. w.reads (flat_map (λ b. b) ms))
 
 module _ (m : Multicast) (cs : List (List ℕ)) (rs : List Reader) (p : ℕ) (before after : Node) (later : Works m cs rs p after) (s : State Packet) (x : Parcel Packet) where
-  follows : (o : Outcome) (a : Answer Packet) → receive (ins m.network p) s x ≡ a → Tells before.slots after.slots o (map_answer alone a) → Relayed m cs rs p s x before after o
-  follows (Refused f) (refused n) e h = let q : n ≡ number f = cc h.0 in (e ∙ ap refused q, h.1)
-  follows (Refused f) (took t) e h = let z : ◌≡◌ {A = ℕ} 0 1 = cc h.0 in absurd (omega arith)
-  follows (Taken count) (refused n) e h = let z : ◌≡◌ {A = ℕ} 0 1 = cc h.2 in absurd (omega arith)
-  follows (Taken count) (took t) e h =
+  follows : (o : Result ℕ Refusal) (a : Answer Packet) → receive (ins m.network p) s x ≡ a → Tells before.slots after.slots o (map_answer alone a) → Relayed m cs rs p s x before after o
+  follows (Err f) (refused n) e h = let q : n ≡ number f = cc h.0 in (e ∙ ap refused q, h.1)
+  follows (Err f) (took t) e h = let z : ◌≡◌ {A = ℕ} 0 1 = cc h.0 in absurd (omega arith)
+  follows (Ok count) (refused n) e h = let z : ◌≡◌ {A = ℕ} 0 1 = cc h.2 in absurd (omega arith)
+  follows (Ok count) (took t) e h =
       let q : map_ended alone t ≡ ended_in after.slots before.slots.round count = cc h.2 in
       let rounds : recent after before.slots.round count ≡ map (map_over alone) t.rounds = sym (ap (λ v. v.rounds) q) in (
         t,
         e,
         sym (ap (λ v. v.state) q),
-        ap (sent (at_source (scheme after)) (vec_items after.outs)) rounds ∙ sends-so m cs rs p after later (map (map_over alone) t.rounds) ∙ alone-holds.same_sent (working cs) (outs m.network p) t.rounds,
+        ap (sent (at_source (scheme after)) (goes after)) rounds ∙ sends-so m cs rs p after later (map (map_over alone) t.rounds) ∙ alone-holds.same_sent (working cs) (outs m.network p) t.rounds,
         ap (readings (λ ms. reading_of after (flat_map (λ b. b) ms))) rounds ∙ puts-so m cs rs p after later (map (map_over alone) t.rounds) ∙ alone-holds.same_read (reading m rs p) t.rounds,
       )
 
@@ -93,15 +92,15 @@ sources m cs rs before after w like n same bytes long o h = answer o (subst (Tel
     later : Works m cs rs 0 after
     later = works-on m cs rs 0 before after like w
 
-    answer : (o : Outcome) → Tells before.slots after.slots o (took (begins n (cut m.rate bytes)).0)
-        → (count : ℕ) × (o ≡ Taken count) × (state after.slots ≡ begun (n + 1))
+    answer : (o : Result ℕ Refusal) → Tells before.slots after.slots o (took (begins n (cut m.rate bytes)).0)
+        → (count : ℕ) × (o ≡ Ok count) × (state after.slots ≡ begun (n + 1))
         × (sending after before.slots.round count ≡ send (working cs) n (cut m.rate bytes) (outs m.network 0))
-    answer (Refused f) h = let z : ◌≡◌ {A = ℕ} 0 1 = cc h.0 in absurd (omega arith)
-    answer (Taken count) h =
+    answer (Err f) h = let z : ◌≡◌ {A = ℕ} 0 1 = cc h.0 in absurd (omega arith)
+    answer (Ok count) h =
         let b = begins n (cut m.rate bytes) in
         let q : (begins n (cut m.rate bytes)).0 ≡ ended_in after.slots before.slots.round count = cc h.2 in (
           count,
           refl,
           sym (ap (λ v. v.state) q) ∙ b.2,
-          ap (sent (at_source (scheme after)) (vec_items after.outs)) (sym (ap (λ v. v.rounds) q)) ∙ sends-so m cs rs 0 after later b.0.rounds ∙ b.3 (working cs) (outs m.network 0),
+          ap (sent (at_source (scheme after)) (goes after)) (sym (ap (λ v. v.rounds) q)) ∙ sends-so m cs rs 0 after later b.0.rounds ∙ b.3 (working cs) (outs m.network 0),
         )

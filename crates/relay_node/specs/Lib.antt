@@ -5,3 +5,4 @@ pub mod NodeErrors
 pub mod Nodes
 pub mod Assembly
 pub mod Relays
+pub mod Packets

@@ -15,7 +15,7 @@ use Rattle.run_theory.specs.Run.{ins, outs}
 use Rattle.delivery_theory.specs.Work.{working, reading}
 use Rattle.relay_node.specs.NodeErrors.{number}
 use Rattle.relay_memory.specs.Values.{state}
-use Rattle.relay_node.specs.Values.{scheme, reading as reading_of}
+use Rattle.relay_node.specs.Values.{goes as goes_of, scheme, reading as reading_of}
 use Rattle.relay_node.specs.declared.node.Node.{Node}
 use Rattle.relay_node.specs.declared.node_error.NodeError.{NodeError}
 
@@ -31,7 +31,7 @@ pub record Works (m : Multicast) (cs : List (List ℕ)) (rs : List Reader) (p : 
   pub source : d.source ≡ (p == 0)
   pub wide : d.slots.width ≡ width m p
   pub comes : vec_items d.slots.ins ≡ entries m p
-  pub goes : vec_items d.outs ≡ outs m.network p
+  pub goes : goes_of d ≡ outs m.network p
   -- over each link out of it what the plan's scheme makes of the packets at hand
   pub sends : (k : ℕ) → is_in k (outs m.network p) ≡ true → (bs : List Packet) → scheme d k bs ≡ working cs k bs
   -- what the receiver there reads; nothing where there is none

@@ -1,15 +1,20 @@
 // Why there is no node at a place.
-ghost use Rattle.std.specs.Prelude.{◌≡◌};
-ghost use Rattle.relay_node.specs.NodeErrors.{number};
+ghost use Rattle.std.specs.Prelude.{◌≡◌, Some};
+ghost use Rattle.relay_node.specs.NodeErrors.{number, text};
+ghost use Rattle.relay_node.specs.declared.node_error.NodeError.TheVariants.{Memory};
 
-#[derive(Clone, Copy)]
+use std::alloc::{AllocError, AllocFailed};
+use std::error::Error;
+use std::fmt;
+
+#[derive(Clone, Copy, Debug, PartialEq, Eq)]
 pub enum NodeError {
     // the net has no such place
-    Missing,
+    Missing = 2,
     // the plan serves no one, or no receiver is there
-    Unfit,
+    Unfit = 9,
     // there is no memory for it
-    Memory,
+    Memory = 0,
 }
 
 impl NodeError {
@@ -17,10 +22,37 @@ impl NodeError {
     pub fn number(self) -> u8
         ensures { result ≡ number self }
     {
+        self as u8
+    }
+}
+
+// In the words of the format, where nodes are places and receivers listeners.
+impl fmt::Display for NodeError {
+    ghost output = { λ error. Some (text error) };
+
+    fn fmt<W: fmt::Write>(&self, f: &mut fmt::Formatter<W>) -> fmt::Result {
         match self {
-            NodeError::Missing => 2,
-            NodeError::Unfit => 9,
-            NodeError::Memory => 0,
+            NodeError::Missing => f.write_str("fault 2: a place that isn't there"),
+            NodeError::Unfit => f.write_str("fault 9: a listener that isn't one"),
+            NodeError::Memory => f.write_str("not enough memory"),
         }
+    }
+}
+
+impl Error for NodeError {}
+
+impl From<AllocError> for NodeError {
+    ghost from_gives = { λ _ e. e ≡ Memory };
+
+    fn from(_e: AllocError) -> NodeError {
+        NodeError::Memory
+    }
+}
+
+impl<T: Drop> From<AllocFailed<T>> for NodeError {
+    ghost from_gives = { λ _ e. e ≡ Memory };
+
+    fn from(_e: AllocFailed<T>) -> NodeError {
+        NodeError::Memory
     }
 }

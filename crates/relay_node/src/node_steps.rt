@@ -5,56 +5,51 @@ ghost use Rattle.relay_theory.specs.Relay.{receive, at_source};
 ghost use Rattle.relay_memory.specs.Memory.{cut};
 ghost use Rattle.relay_memory.specs.Values.{parcel, state, over_in, Tells};
 ghost use Rattle.relay_node.specs.Steps.{take_packet, take_message};
-ghost use Rattle.relay_node.specs.Values.{Alike, scheme, reading};
+ghost use Rattle.relay_node.specs.Values.{Alike, goes, scheme, reading};
 
 use crate::node::Node;
 use gf_bytes::{PACKET_LENGTH, Packet, add_multiple};
-use relay_memory::{Outcome, Refusal};
+use relay_memory::Refusal;
 
 impl Node {
-    // Takes in a packet of a round over a link. What came in for the rounds that ended stays in memory until the next call.
-    pub fn take(self, link: u16, round: u32, packet: &Packet) -> (Node, Outcome)
-        ensures answer { Tells self.slots result.0.slots result.1 (take_packet self.source self.slots.ins.items (state self.slots) link round packet.now) }
-        ensures code { Alike self result.0 }
-    {
-        self.take_bytes(link, round, packet)
-    }
-
-    // The same, by the packet's bytes.
-    pub(crate) fn take_bytes(self, link: u16, round: u32, bytes: &[u8]) -> (Node, Outcome)
-        requires { length bytes.now ≡ 1024 }
-        ensures answer { Tells self.slots result.0.slots result.1 (take_packet self.source self.slots.ins.items (state self.slots) link round bytes.now) }
-        ensures code { Alike self result.0 }
+    // Takes in a packet of a round over a link, and answers how many rounds end. What came in for them stays in memory until the next call.
+    pub fn take(&mut self, link: u16, round: u32, packet: &Packet) -> Result<u8, Refusal>
+        ensures answer { Tells self.old.slots self.new.slots result (take_packet self.old.source self.old.slots.ins.items (state self.old.slots) link round packet.now) }
+        ensures code { Alike self.old self.new }
     {
         if self.source {
-            return (self, Outcome::Refused(Refusal::Foreign));
+            return Err(Refusal::Foreign);
         }
-        self.put(link, round, bytes)
+        self.put(link, round, packet)
     }
 
     // Takes in a message, by its bytes.
-    pub fn take_message(self, round: u32, bytes: &[u8]) -> (Node, Outcome)
-        ensures answer { Tells self.slots result.0.slots result.1 (take_message self.source self.slots.width self.slots.ins.items (state self.slots) round bytes.now) }
-        ensures code { Alike self result.0 }
+    pub fn take_message(&mut self, round: u32, bytes: &[u8]) -> Result<u8, Refusal>
+        ensures answer { Tells self.old.slots self.new.slots result (take_message self.old.source self.old.slots.width self.old.slots.ins.items (state self.old.slots) round bytes.now) }
+        ensures code { Alike self.old self.new }
     {
         if !self.source || bytes.len() != self.slots.width * PACKET_LENGTH {
-            return (self, Outcome::Refused(Refusal::Malformed));
+            return Err(Refusal::Malformed);
         }
         self.put(0, round, bytes)
+    }
+
+    // The packets that came in for a round in memory, in the order of the links.
+    fn came(&self, round: u64) -> &[Packet]
+        ensures packets { result.now ≡ flat_map (λ m. m) (over_in self.now.slots round).came }
+        ensures len { length result.now ≡ vec_len self.now.slots.ins * self.now.slots.width }
+    {
+        let hand = self.slots.ins.len() * self.slots.width;
+        let first = (round % 3) as usize * hand;
+        &self.slots.packets[first..first + hand]
     }
 
     // The packet that goes out over link outs[out] for a round in memory.
     pub fn mix(&self, round: u64, out: usize) -> Packet
         requires { out < vec_len self.now.outs }
-        ensures { result ≡ at_source (scheme self.now) (slice_index self.now.outs.items out) (over_in self.now.slots round).came }
+        ensures { result ≡ at_source (scheme self.now) (slice_index (goes self.now) out) (over_in self.now.slots round).came }
     {
-        let hand = self.slots.ins.len() * self.slots.width;
-        let row = out * hand;
-        let first = (round % 3) as usize * hand;
-        gf_bytes::mix(
-            &self.coefficients[row..row + hand],
-            &self.slots.packets[first..first + hand],
-        )
+        gf_bytes::mix(&self.outs[out].coefficients, self.came(round))
     }
 
     // Packet j of the message that the receiver reads for a round in memory.
@@ -62,43 +57,22 @@ impl Node {
         requires { j < vec_len self.now.current }
         ensures { result ≡ slice_index_or (reading self.now (flat_map (λ m. m) (over_in self.now.slots round).came)) j [] }
     {
-        let count = self.current.len();
-        let first = (round % 3) as usize * (self.slots.ins.len() * self.slots.width);
+        let came = self.came(round);
+        let row = &self.rows[j];
         let mut sum = [0; PACKET_LENGTH];
-        for i in 0..count {
-            let slot = first + self.current[i] as usize;
-            add_multiple(
-                &mut sum,
-                self.rows[j * count + i],
-                &self.slots.packets[slot],
-            );
+        // by place: in a loop over `row.iter().zip(..)` the row has no name for the invariant, and the proof didn't close
+        for (i, at) in self.current.iter().enumerate() {
+            add_multiple(&mut sum, row[i], &came[*at as usize]);
         }
         sum
     }
 
     // Puts what comes in into the memory.
-    fn put(self, link: u16, round: u32, bytes: &[u8]) -> (Node, Outcome)
-        requires { length bytes.now ≡ self.slots.width * 1024 }
-        ensures answer { Tells self.slots result.0.slots result.1 (receive self.slots.ins.items (state self.slots) (parcel link round (cut self.slots.width bytes.now))) }
-        ensures code { Alike self result.0 }
+    fn put(&mut self, link: u16, round: u32, bytes: &[u8]) -> Result<u8, Refusal>
+        requires { length bytes.now ≡ self.old.slots.width * 1024 }
+        ensures answer { Tells self.old.slots self.new.slots result (receive self.old.slots.ins.items (state self.old.slots) (parcel link round (cut self.old.slots.width bytes.now))) }
+        ensures code { Alike self.old self.new }
     {
-        let Node {
-            source,
-            slots,
-            outs,
-            coefficients,
-            current,
-            rows,
-        } = self;
-        let (slots, outcome) = slots.take(link, round, bytes);
-        let node = Node {
-            source,
-            slots,
-            outs,
-            coefficients,
-            current,
-            rows,
-        };
-        (node, outcome)
+        self.slots.take(link, round, bytes)
     }
 }

@@ -64,23 +64,23 @@ module _ (r : ℕ) (msg : List Packet) where
   source-takes = accepts origin (begun r) x (record { comes = refl; open' = omega arith; free = refl; soon = omega arith }) ∙ ap took ending
 
 module _ (m : Multicast) (ok : Accepted m) (cs : List (List ℕ)) (rs : List Reader) (c : Config) (y y' : Player) (w : Stands m cs rs y c) (bytes : List ℕ) (long : length bytes ≡ m.rate * 1024)
-    (same : y'.round ≡ y.round) (counts : vec_items y'.counts ≡ vec_items y.counts) (after : Node) (put : vec_items y'.nodes ≡ set (vec_items y.nodes) 0 after)
-    (took' : Took (get_or (vec_items y.nodes) 0 y.spare) after (take_message (get_or (vec_items y.nodes) 0 y.spare).source (get_or (vec_items y.nodes) 0 y.spare).slots.width (vec_items (get_or (vec_items y.nodes) 0 y.spare).slots.ins) (state (get_or (vec_items y.nodes) 0 y.spare).slots) y.round bytes)) where
+    (d₀ : Node) (same : y'.round ≡ y.round) (counts : vec_items y'.counts ≡ vec_items y.counts) (after : Node) (put : vec_items y'.nodes ≡ set (vec_items y.nodes) 0 after)
+    (took' : Took (get_or (vec_items y.nodes) 0 d₀) after (take_message (get_or (vec_items y.nodes) 0 d₀).source (get_or (vec_items y.nodes) 0 d₀).slots.width (vec_items (get_or (vec_items y.nodes) 0 d₀).slots.ins) (state (get_or (vec_items y.nodes) 0 d₀).slots) y.round bytes)) where
   some : 0 < m.network.nodes
   some = omega (arith, ok.sound.some)
 
-  works : Works m cs rs 0 (get_or (vec_items y.nodes) 0 y.spare)
-  works = w.fitted.works 0 y.spare some
+  works : Works m cs rs 0 (get_or (vec_items y.nodes) 0 d₀)
+  works = w.fitted.works 0 d₀ some
 
-  answer : take_message (get_or (vec_items y.nodes) 0 y.spare).source (get_or (vec_items y.nodes) 0 y.spare).slots.width (vec_items (get_or (vec_items y.nodes) 0 y.spare).slots.ins) (state (get_or (vec_items y.nodes) 0 y.spare).slots) y.round bytes ≡ took (begins y.round (cut m.rate bytes))
+  answer : take_message (get_or (vec_items y.nodes) 0 d₀).source (get_or (vec_items y.nodes) 0 d₀).slots.width (vec_items (get_or (vec_items y.nodes) 0 d₀).slots.ins) (state (get_or (vec_items y.nodes) 0 d₀).slots) y.round bytes ≡ took (begins y.round (cut m.rate bytes))
   answer =
-      ap₂ (λ b h. take_message b h (vec_items (get_or (vec_items y.nodes) 0 y.spare).slots.ins) (state (get_or (vec_items y.nodes) 0 y.spare).slots) y.round bytes) works.source works.wide
-      ∙ ap₂ (λ is s. take_message true m.rate is s y.round bytes) works.comes (w.source y.spare)
+      ap₂ (λ b h. take_message b h (vec_items (get_or (vec_items y.nodes) 0 d₀).slots.ins) (state (get_or (vec_items y.nodes) 0 d₀).slots) y.round bytes) works.source works.wide
+      ∙ ap₂ (λ is s. take_message true m.rate is s y.round bytes) works.comes (w.source d₀)
       ∙ ap (λ b. cond b (receive origin (begun y.round) (record { link = 0; round = y.round; content = cut m.rate bytes })) (refused 1)) (eq-eqb (length bytes) (m.rate * 1024) long)
       ∙ source-takes y.round (cut m.rate bytes)
 
   in-there : Kept after (begins y.round (cut m.rate bytes))
-  in-there = tells (get_or (vec_items y.nodes) 0 y.spare) after took'.0.0 _ (subst (Tells (get_or (vec_items y.nodes) 0 y.spare).slots after.slots took'.0.0) answer took'.0.1)
+  in-there = tells (get_or (vec_items y.nodes) 0 d₀) after took'.0.0 _ (subst (Tells (get_or (vec_items y.nodes) 0 d₀).slots after.slots took'.0.0) answer took'.0.1)
 
   at_place : (i : ℕ) (d : Node) → ((i ≡ 0) × (get_or (vec_items y'.nodes) i d ≡ after)) ⊎ ((i ≡ 0 → ⊥) × (get_or (vec_items y'.nodes) i d ≡ get_or (vec_items y.nodes) i d))
   at_place i d =

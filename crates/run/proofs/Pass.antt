@@ -1,5 +1,5 @@
 -- A link is passed: its beginning has the packets of the round in memory, so what it sends is what is under way; its end takes it in as the definition says.
-use Rattle.std.proofs.Common.{◌≡◌, ℕ, zero, suc, ◌+◌, ◌-◌, ◌^◌, ◌<◌, ◌≤◌, true, false, cond, ◌⊎◌, List, [], ◌∷◌, ◌++◌, map, length, get_or, set, vec_items, sym, refl, ap, ◌∙◌, subst, ap₂, inl, inr, arith}
+use Rattle.std.proofs.Common.{◌≡◌, ℕ, zero, suc, ◌+◌, ◌-◌, ◌^◌, ◌<◌, ◌≤◌, true, false, cond, ◌⊎◌, List, [], ◌∷◌, ◌++◌, map, length, get_or, set, Ok, Err, Result, vec_items, sym, refl, ap, ◌∙◌, subst, ap₂, inl, inr, arith}
 use Rattle.std.specs.List.{range_with_len, flat_map}
 use Rattle.std.proofs.lemmas.List.{get_or-set_same, get_or-set_other, length-set}
 use Rattle.std.proofs.lemmas.Bool.{cases_eq, eq-eqb, ne_eqb}
@@ -19,10 +19,9 @@ use Rattle.play_theory.proofs.Round.{passes}
 use Rattle.delivery_theory.specs.Work.{working, reading}
 use Rattle.relay_node.specs.Steps.{take_packet}
 use Rattle.relay_memory.specs.Values.{state, over_in, Tells}
-use Rattle.relay_node.specs.Values.{Alike, scheme}
+use Rattle.relay_node.specs.Values.{Alike, goes, scheme}
 use Rattle.relay_node.specs.declared.node.Node.{Node}
-use Rattle.relay_memory.specs.declared.outcome.Outcome.{Outcome}
-use Rattle.relay_memory.specs.declared.outcome.Outcome.TheVariants.{Refused, Taken}
+use Rattle.relay_memory.specs.declared.refusal.Refusal.{Refusal}
 use Rattle.relay_node.specs.Nodes.{Works}
 use Rattle.run.specs.Zero.{zeros}
 use Rattle.run.specs.Taking.{Took}
@@ -52,8 +51,8 @@ still-works m cs rs p one two w a =
       source = a.source ∙ w.source;
       wide = a.width ∙ w.wide;
       comes = ap vec_items a.ins ∙ w.comes;
-      goes = ap vec_items a.outs ∙ w.goes;
-      sends = λ k h bs. rw (a.ins, a.width, a.outs, a.coefficients) (w.sends k h bs);
+      goes = ap (λ os. map (λ o. o.link) (vec_items os)) a.outs ∙ w.goes;
+      sends = λ k h bs. rw a.outs (w.sends k h bs);
       reads = λ bs. rw (a.current, a.rows) (w.reads bs);
     }
 
@@ -87,9 +86,9 @@ only-round after b (suc n) r ms e =
     let c = ap (λ (u : Over (List Packet)). u.came) o in
     ap (λ i. (over_in after.slots i).came) q ∙ sym c
 
-pub tells : (before after : Node) (o : Outcome) (e : Ended (List Packet)) → Tells before.slots after.slots o (took e) → Kept after e
-tells before after (Refused f) e t = absurd (let n = ap told t.0 in omega arith)
-tells before after (Taken n) e t =
+pub tells : (before after : Node) (o : Result ℕ Refusal) (e : Ended (List Packet)) → Tells before.slots after.slots o (took e) → Kept after e
+tells before after (Err f) e t = absurd (let n = ap told t.0 in omega arith)
+tells before after (Ok n) e t =
     let is = ap (ended_by e) t.2 in
     record {
       new = sym (ap (λ (u : Ended (List Packet)). u.state) is);
@@ -119,11 +118,10 @@ module _ (m : Multicast) (ok : Accepted m) (cs : List (List ℕ)) (rs : List Rea
   on = passes m.network ok.sound ok.fed (working cs) (reading m rs) c w.rests msg k l now w.passed
 
   -- the packet that the link's beginning sends
-  pub right-packet : (packet : Packet)
-      → ((d : Node) → is_in k (vec_items (get_or (vec_items y.nodes) (link_at m.network.links k).from d).outs) ≡ true → packet ≡ at_source (scheme (get_or (vec_items y.nodes) (link_at m.network.links k).from d)) k (over_in (get_or (vec_items y.nodes) (link_at m.network.links k).from d).slots y.round).came)
+  pub right-packet : (d : Node) (packet : Packet)
+      → ((d : Node) → is_in k (goes (get_or (vec_items y.nodes) (link_at m.network.links k).from d)) ≡ true → packet ≡ at_source (scheme (get_or (vec_items y.nodes) (link_at m.network.links k).from d)) k (over_in (get_or (vec_items y.nodes) (link_at m.network.links k).from d).slots y.round).came)
       → packet ≡ working cs k (got m.network (working cs) (link_at m.network.links k).from msg)
-  right-packet packet is =
-      let d : Node = y.spare in
+  right-packet d packet is =
       let inside = (ok.sound.within k l).0 in
       let works = w.fitted.works q d inside in
       let out : is_in k (outs m.network q) ≡ true = numbers-in (λ l. l.from) q m.network.links 0 k k (omega arith) l refl in
@@ -138,9 +136,9 @@ module _ (m : Multicast) (ok : Accepted m) (cs : List (List ℕ)) (rs : List Rea
                 (omega (arith, on.2.sent, rounds-other now.begun now.states (link_at m.network.links k).from e, w.number))
           ]
 
-  module _ (y' : Player) (packet : Packet) (is : packet ≡ working cs k (got m.network (working cs) (link_at m.network.links k).from msg)) (same : y'.round ≡ y.round) (early : y.round < 2 ^ 32) (after : Node)
+  module _ (d₀ : Node) (y' : Player) (packet : Packet) (is : packet ≡ working cs k (got m.network (working cs) (link_at m.network.links k).from msg)) (same : y'.round ≡ y.round) (early : y.round < 2 ^ 32) (after : Node)
       (put : vec_items y'.nodes ≡ set (vec_items y.nodes) (link_at m.network.links k).to after)
-      (took' : Took (get_or (vec_items y.nodes) (link_at m.network.links k).to y.spare) after (take_packet (get_or (vec_items y.nodes) (link_at m.network.links k).to y.spare).source (vec_items (get_or (vec_items y.nodes) (link_at m.network.links k).to y.spare).slots.ins) (state (get_or (vec_items y.nodes) (link_at m.network.links k).to y.spare).slots) k y.round packet))
+      (took' : Took (get_or (vec_items y.nodes) (link_at m.network.links k).to d₀) after (take_packet (get_or (vec_items y.nodes) (link_at m.network.links k).to d₀).source (vec_items (get_or (vec_items y.nodes) (link_at m.network.links k).to d₀).slots.ins) (state (get_or (vec_items y.nodes) (link_at m.network.links k).to d₀).slots) k y.round packet))
       (counted : get_or (vec_items y.counts) k 0 < 2 ^ 64 - 1 → vec_items y'.counts ≡ set (vec_items y.counts) k (get_or (vec_items y.counts) k 0 + cond (zeros packet) 0 1)) where
     there : (link_at m.network.links k).to < m.network.nodes
     there = (ok.sound.within k l).1
@@ -148,8 +146,8 @@ module _ (m : Multicast) (ok : Accepted m) (cs : List (List ℕ)) (rs : List Rea
     not-source : (link_at m.network.links k).to ≡ 0 → ⊥
     not-source = (ok.sound.apart k l).0
 
-    works : Works m cs rs (link_at m.network.links k).to (get_or (vec_items y.nodes) (link_at m.network.links k).to y.spare)
-    works = w.fitted.works (link_at m.network.links k).to y.spare there
+    works : Works m cs rs (link_at m.network.links k).to (get_or (vec_items y.nodes) (link_at m.network.links k).to d₀)
+    works = w.fitted.works (link_at m.network.links k).to d₀ there
 
     passing : Passing m.network (working cs) (reading m rs) c msg k now on.1 on.0
     passing = on.2
@@ -159,7 +157,7 @@ module _ (m : Multicast) (ok : Accepted m) (cs : List (List ℕ)) (rs : List Rea
         taken_in _ after (ins m.network (link_at m.network.links k).to) (now.states (link_at m.network.links k).to) k y.round packet on.1
         (works.source ∙ ne_eqb (link_at m.network.links k).to 0 not-source)
         (rw (ne_eqb (link_at m.network.links k).to 0 not-source) at works.comes)
-        (w.states (link_at m.network.links k).to y.spare (omega (arith, not-source)) there)
+        (w.states (link_at m.network.links k).to d₀ (omega (arith, not-source)) there)
         (ap₂ (λ r v. receive (ins m.network (link_at m.network.links k).to) (now.states (link_at m.network.links k).to) (record { link = k; round = r; content = v })) w.number is ∙ passing.taken)
         took'
 

@@ -1,6 +1,10 @@
 -- What a receiver reads is the message if each of its packets is; and that is what the plan's readers read from what came in.
-use Rattle.std.proofs.Common.{◌≡◌, ℕ, ◌+◌, ◌-◌, ◌*◌, ◌<◌, Bool, true, false, List, [], length, get_or, take, drop, vec_items, vec_len, sym, refl, ap, ◌∙◌, ap₂, arith}
+use Rattle.std.proofs.Common.{◌≡◌, ℕ, ◌+◌, ◌-◌, ◌*◌, ◌<◌, Bool, true, false, not, nat_eq, List, [], length, get_or, drop, vec_items, vec_len, sym, refl, ap, ◌∙◌, ap₂, arith}
+use Rattle.std.specs.Bool.{MatchBool}
 use Rattle.std.specs.List.{flat_map}
+use Rattle.std.specs.Simd.{first_chunks}
+use Rattle.std.specs.Cmp.Lexicographic.{told_text}
+use lib.Pointwise.{pointwise}
 use Rattle.std.proofs.lemmas.List.FromFn.{length-map-range_with_len, get_or-map-range_with_len}
 use Rattle.std.proofs.lemmas.List.{ext_get_or, length-map, length_push, length-take-le, length-drop, get_or-take, get_or-drop, get_or_read_under}
 use Rattle.std.proofs.lemmas.Bool.{both_ways}
@@ -19,13 +23,14 @@ use Rattle.delivery_theory.specs.Work.{working, reading}
 use Rattle.delivery_theory.proofs.Delivers.{reads-what-came}
 use Rattle.relay_memory.specs.Memory.{part, cut}
 use Rattle.relay_memory.specs.Values.{over_in}
+use Rattle.relay_memory.proofs.Parts.{cut-chunks}
 use Rattle.relay_node.specs.Values.{reading as reading_of}
 use Rattle.relay_node.specs.declared.node.Node.{Node}
 use Rattle.run.specs.Hearing.{Tells, Hears, HasAll}
 use Rattle.run.specs.declared.player.Player.{Player}
 
 pub length-reading : (d : Node) (bs : List Packet) → length (reading_of d bs) ≡ length (vec_items d.current)
-length-reading d bs = length-map _ _ ∙ length-map-range_with_len _ 0 (length (vec_items d.current))
+length-reading d bs = length-map _ _ ∙ length-map _ _ ∙ omega (arith, d.square, d.rows.ok.0, d.current.ok.0)
 
 pub length_cut : (h : ℕ) (bytes : List ℕ) → length (cut h bytes) ≡ h
 length_cut h bytes = length-map-range_with_len _ 0 h
@@ -58,9 +63,9 @@ module _ (m : Multicast) (ok : Accepted m) (y : Player) (i : ℕ) (l : i < lengt
       let place = ok.placed i l in
       let many : length msgs ≡ y.round - 1 = omega (arith, w.number, ap length e, length_push msgs (cut m.rate bytes)) in
       let hold : flat_map (λ b. b) (over_in n.slots (y.round - 1)).came ≡ got m.network (working cs) (get_or m.receivers i 0) (cut m.rate bytes) =
-      ap₂ (λ (u : Node) k. flat_map (λ b. b) (over_in u.slots k).came) (n-is y.spare) (sym many) ∙ w.last (get_or m.receivers i 0) y.spare msgs (cut m.rate bytes) place.0 place.1 some e in
+      ap₂ (λ (u : Node) k. flat_map (λ b. b) (over_in u.slots k).came) (n-is n) (sym many) ∙ w.last (get_or m.receivers i 0) n msgs (cut m.rate bytes) place.0 place.1 some e in
       let is : reading_of n (flat_map (λ b. b) (over_in n.slots (y.round - 1)).came) ≡ reading m rs (get_or m.receivers i 0) (got m.network (working cs) (get_or m.receivers i 0) (cut m.rate bytes)) =
-      ap₂ (λ (u : Node) bs. reading_of u bs) (n-is y.spare) hold ∙ (w.fitted.works (get_or m.receivers i 0) y.spare place.1).reads _ in
+      ap₂ (λ (u : Node) bs. reading_of u bs) (n-is n) hold ∙ (w.fitted.works (get_or m.receivers i 0) n place.1).reads _ in
       ((λ h. sym is ∙ t.0 h), (λ h. t.1 (is ∙ h)))
 
   pub has_all : ((j : ℕ) → get_or bytes j 0 < 256) → HasAll m y bytes r
@@ -69,6 +74,10 @@ module _ (m : Multicast) (ok : Accepted m) (y : Player) (i : ℕ) (l : i < lengt
       let k : ℕ = get_or (reader_at rs i).links 0 0 in
       let some : any (ins m.network (get_or m.receivers i 0)) ≡ true = in-any _ _ (numbers-in (λ l. l.to) (get_or m.receivers i 0) m.network.links 0 k k (omega arith) leads.0 leads.1) in
       (hears cs rs c msgs w e long some).1 (reads-what-came m ok cs rs serves named i l (cut m.rate bytes) (message m.rate bytes long small))
+
+turned : (b r : Bool) → r ≡ not b → not r ≡ b
+turned true r e = ap not e
+turned false r e = ap not e
 
 tells-not : {A : Type 0} → (A → ⊥) → Tells false A
 tells-not o = ((λ e. absurd (both_ways false refl e)), (λ a. absurd (o a)))
@@ -105,6 +114,13 @@ module _ (net : Net) (y : Player) (i x : ℕ) (bytes : List ℕ) (n : Node) (l :
   pub heard-not : (k : ℕ) → k < net.rate → (get_or (reading_of n (flat_map (λ b. b) (over_in n.slots (y.round - 1)).came)) k [] ≡ part 1024 k bytes → ⊥) → Hears (value net) y i bytes false × HasAll (value net) y bytes false
   heard-not k h o = heard false (tells-not (λ e. o (same-packet n _ net.rate bytes k h e)))
 
--- a part of the bytes as the program takes it
-pub slice_is : (j : ℕ) (bytes : List ℕ) → take (j * 1024 + 1024 - j * 1024) (drop (j * 1024) bytes) ≡ part 1024 j bytes
-slice_is j bytes = let n : j * 1024 + 1024 - j * 1024 ≡ 1024 = omega arith in ap (λ k. take k (drop (j * 1024) bytes)) n
+-- the bytes cut into packets, as the program takes them
+pub chunk_at : (bytes : List ℕ) (m : ℕ) (packets : List Packet) → packets ≡ first_chunks 1024 m bytes → (j : ℕ) → j < length packets → get_or packets j [] ≡ part 1024 j bytes
+chunk_at bytes m packets e j l =
+    let is : packets ≡ cut m bytes = e ∙ cut-chunks m m bytes refl in
+    ap (λ ps. get_or ps j []) is ∙ cut_at m bytes j (omega (arith, ap length is, length_cut m bytes))
+
+-- what a test of two packets tells
+pub differ : (xs ys : List ℕ) (r : Bool) → r ≡ not (pointwise nat_eq xs ys) → MatchBool r (xs ≡ ys → ⊥) (xs ≡ ys)
+differ xs ys true e = told_text xs ys false (turned (pointwise nat_eq xs ys) true e)
+differ xs ys false e = told_text xs ys true (turned (pointwise nat_eq xs ys) false e)

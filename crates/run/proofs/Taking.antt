@@ -1,28 +1,23 @@
--- A node that was taken out of the list and put back.
-use Rattle.std.proofs.Common.{◌≡◌, ℕ, ◌+◌, ◌<◌, ◌≤◌, true, false, ◌&&◌, List, length, get_or, drop, set, ap, ◌∙◌, subst}
-use Rattle.std.proofs.lemmas.List.{set-set, drop_more, drop_all}
-use Rattle.std.proofs.lemmas.Bool.{eq-eqb, ne_eqb}
+-- Nodes, each by what it takes in.
+use Rattle.std.proofs.Common.{◌≡◌, ℕ, suc, ◌<◌, false, List, [], ◌∷◌, map, length, sym, refl, subst, arith}
+use Rattle.std.specs.List.{AllWithin}
+use Rattle.std.proofs.lemmas.Bool.{ne_eqb}
 use Rattle.network_cuts.specs.Scheme.{Packet}
-use Rattle.relay_theory.specs.Relay.{Answer}
+use Rattle.relay_theory.specs.Relay.{is_in, Answer}
 use Rattle.relay_node.specs.declared.node.Node.{Node}
+use Rattle.relay_node.specs.declared.node.Out.{Out}
 use Rattle.run.specs.Taking.{Took}
-use Rattle.run.specs.Zero.{zeros}
-
-pub replaced : (xs ys zs : List Node) (i : ℕ) (a b : Node) → ys ≡ set xs i a → zs ≡ set ys i b → zs ≡ set xs i b
-replaced xs ys zs i a b e d = d ∙ ap (λ l. set l i b) e ∙ set-set xs i a b
 
 pub took-at : (one two after : Node) (f : Node → Answer (List Packet)) → one ≡ two → Took one after (f one) → Took two after (f two)
 took-at one two after f e t = subst (λ n. Took n after (f n)) e t
 
--- whether all is 0 is decided by what is left, so far as there was nothing else
-pub zeros-on : (xs : List ℕ) (i : ℕ) → i < length xs → get_or xs i 0 ≡ 0 → zeros (drop i xs) ≡ zeros (drop (i + 1) xs)
-unfolding zeros
-zeros-on xs i l e = ap zeros (drop_more xs i 0 l) ∙ ap (λ b. b && zeros (drop (i + 1) xs)) (eq-eqb (get_or xs i 0) 0 e)
+-- a list of nodes that has some
+pub some-node : (ns : List Node) → 0 < length ns → Node
+some-node [] l = absurd (omega arith)
+some-node (n ∷ ns) l = n
 
-pub zeros-not : (xs : List ℕ) (i : ℕ) → i < length xs → (get_or xs i 0 ≡ 0 → ⊥) → zeros (drop i xs) ≡ false
-unfolding zeros
-zeros-not xs i l e = ap zeros (drop_more xs i 0 l) ∙ ap (λ b. b && zeros (drop (i + 1) xs)) (ne_eqb (get_or xs i 0) 0 e)
-
-pub zeros-end : (xs : List ℕ) (i : ℕ) → length xs ≤ i → zeros (drop i xs) ≡ true
-unfolding zeros
-zeros-end xs i l = ap zeros (drop_all i xs l)
+-- a link that is none of those that go out
+pub goes-not : (k : ℕ) (os : List Out) → AllWithin (λ o. o.link ≡ k → ⊥) os 0 (length os) → is_in k (map (λ o. o.link) os) ≡ false
+unfolding is_in
+goes-not k [] h = refl
+goes-not k (o ∷ os) h = rw (ne_eqb k o.link (λ e. h 0 o (omega arith) (omega arith) (sym e))) (goes-not k os (λ j d a b. h (suc j) d (omega arith) (omega arith)))

@@ -1,6 +1,6 @@
 -- Packets that are all 0: zeros, the test. Assumes nothing.
-use Rattle.std.specs.Prelude.{ℕ, Bool, true, ◌&&◌, List, [], ◌∷◌, ◌==◌}
+use Rattle.std.specs.Prelude.{ℕ, Bool, List, ◌==◌}
+use Rattle.std.specs.List.{list_all}
 
-unfoldable pub zeros : List ℕ → Bool
-zeros [] = true
-zeros (x ∷ xs) = x == 0 && zeros xs
+abbrev pub zeros : List ℕ → Bool
+zeros xs = list_all (λ x. x == 0) xs

@@ -1,44 +1,28 @@
 // Whether receivers have what was played.
-ghost use Rattle.std.specs.Prelude.{◌≡◌, ◌*◌, ◌<◌, ◌≤◌, length, vec_len};
+ghost use Rattle.std.specs.Prelude.{◌≡◌, ◌*◌, ◌<◌, length, vec_len};
 ghost use Rattle.network.specs.Values.{value};
-ghost use Rattle.run.specs.Hearing.{Tells, Hears, HasAll};
+ghost use Rattle.run.specs.Hearing.{Hears, HasAll};
 
 use crate::player::Player;
-use gf_bytes::{PACKET_LENGTH, Packet};
-use network::Multicast;
+use gf_bytes::PACKET_LENGTH;
 
-// Whether a packet has the given bytes.
-fn is_same(packet: &Packet, bytes: &[u8]) -> bool
-    requires { length bytes.now ≡ 1024 }
-    ensures { Tells result (packet.now ≡ bytes.now) }
-{
-    for i in 0..PACKET_LENGTH {
-        if packet[i] != bytes[i] {
-            return false;
-        }
-    }
-    true
-}
-
-impl Player {
+impl Player<'_> {
     // Whether what receiver i of the net has read for the last message is that message, given by its bytes.
-    pub fn has(&self, net: &Multicast, i: usize, bytes: &[u8]) -> bool
-        requires receiver { i < vec_len net.now.receivers }
-        requires nodes { vec_len self.now.nodes ≡ net.now.network.nodes }
+    pub fn has(&self, i: usize, bytes: &[u8]) -> bool
+        requires receiver { i < vec_len self.now.net.now.receivers }
         requires played { 0 < self.now.round }
-        requires long { length bytes.now ≡ net.now.rate * 1024 }
-        ensures hears { Hears (value net.now) self.now i bytes.now result }
-        ensures all { HasAll (value net.now) self.now bytes.now result }
+        requires long { length bytes.now ≡ self.now.net.now.rate * 1024 }
+        ensures hears { Hears (value self.now.net.now) self.now i bytes.now result }
+        ensures all { HasAll (value self.now.net.now) self.now bytes.now result }
     {
-        let node = &self.nodes[net.receivers[i] as usize];
-        let count = net.rate as usize;
-        if node.current.len() != count {
+        let node = &self.nodes[self.net.receivers[i] as usize];
+        if node.current.len() != self.net.rate as usize {
             return false;
         }
-        for j in 0..count {
-            let packet = node.read(self.round - 1, j);
-            let first = j * PACKET_LENGTH;
-            if !is_same(&packet, &bytes[first..first + PACKET_LENGTH]) {
+        let (packets, _) = bytes.as_chunks::<PACKET_LENGTH>();
+        // a loop: by `all` over these pairs the proof of what is heard didn't close
+        for (j, packet) in packets.iter().enumerate() {
+            if node.read(self.round - 1, j) != *packet {
                 return false;
             }
         }

@@ -1,58 +1,41 @@
 // The player of a net, before the first message.
 ghost use Rattle.std.specs.Prelude.{◌≡◌, ◌≤◌, IfOk, vec_len, OnOk};
 ghost use Rattle.network.specs.Values.{value};
-ghost use Rattle.wire.specs.Plan.{Fits};
 ghost use Rattle.wire.specs.Values.{plan as plan_of};
 ghost use Rattle.planner_theory.specs.Plan.{plan_of as prescribed};
 ghost use Rattle.delivery_theory.specs.Promise.{AtWork};
 ghost use Rattle.run.specs.Starting.{Filled, Started};
 
 use crate::player::Player;
-use network::Multicast;
 use relay_node::{Node, NodeError};
 use std::alloc::Global;
-use wire::Plan;
+use wire::Fitted;
 
-// The nodes at the places before `end`.
-fn nodes_before(
-    heap: Global,
-    net: &Multicast,
-    plan: &Plan,
-    end: u16,
-) -> Result<Vec<Node>, NodeError>
-    requires fits { Fits (value net.now) (plan_of plan.now) }
-    requires within { end ≤ net.now.network.nodes }
-    ensures { Filled (value net.now) (plan_of plan.now) end result }
+// The nodes at the places before `end`, by number, which is what a node is made by.
+fn nodes_before(heap: Global, fitted: &Fitted, end: u16) -> Result<Vec<Node>, NodeError>
+    requires { end ≤ fitted.now.net.now.network.nodes }
+    ensures { Filled (value fitted.now.net.now) (plan_of fitted.now.plan.now) end result }
 {
     let mut nodes = Vec::new(heap);
     for p in 0..end {
-        match Node::new(heap, net, plan, p) {
-            Ok(node) => match nodes.push(node) {
-                Ok(()) => {}
-                Err(_) => return Err(NodeError::Memory),
-            },
-            Err(error) => return Err(error),
-        }
+        nodes.push(Node::new(heap, fitted, p)?)?;
     }
     Ok(nodes)
 }
 
-impl Player {
+impl<'a> Player<'a> {
     // The player of a net by a plan that serves all its receivers: in every run by the plan that is prescribed for the net each gets every message.
-    pub fn new(heap: Global, net: &Multicast, plan: &Plan) -> Result<Player, NodeError>
-        requires { Fits (value net.now) (plan_of plan.now) }
-        ensures started { Started (value net.now) (plan_of plan.now) result }
-        ensures promise { OnOk result ((plan_of plan.now ≡ prescribed (value net.now) → AtWork (value net.now) (plan_of plan.now))) }
-        ensures len { IfOk result (λ y. (vec_len y.nodes ≡ net.now.network.nodes) × (y.round ≡ 0) × (vec_len y.counts ≡ vec_len net.now.network.from)) }
+    pub fn new(heap: Global, fitted: &Fitted<'a, '_>) -> Result<Player<'a>, NodeError>
+        ensures started { Started (value fitted.now.net.now) (plan_of fitted.now.plan.now) result }
+        ensures promise { OnOk result ((plan_of fitted.now.plan.now ≡ prescribed (value fitted.now.net.now) → AtWork (value fitted.now.net.now) (plan_of fitted.now.plan.now))) }
+        ensures net { IfOk result (λ y. (y.net.now ≡ fitted.now.net.now) × (y.round ≡ 0)) }
     {
-        let spare = Node::new(heap, net, plan, 0)?;
-        let nodes = nodes_before(heap, net, plan, net.network.nodes)?;
-        let Ok(counts) = vec![in heap; 0u64; net.network.from.len()] else {
-            return Err(NodeError::Memory);
-        };
+        let net = fitted.net;
+        let nodes = nodes_before(heap, fitted, net.network.nodes)?;
+        let counts = vec![in heap; 0u64; net.network.links.len()]?;
         Ok(Player {
+            net,
             nodes,
-            spare,
             round: 0,
             counts,
         })

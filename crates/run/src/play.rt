@@ -1,108 +1,67 @@
 // Messages are played one after the other. The packets of a message arrive in the order of the links, so that a node has all that comes in
 // before it sends, and memory holds no packets but those that nodes keep.
-ghost use Rattle.std.specs.Prelude.{◌≡◌, ◌+◌, ◌^◌, ◌<◌, ◌≤◌, length, vec_len};
+ghost use Rattle.std.specs.Prelude.{◌≡◌, ◌+◌, ◌^◌, ◌<◌, length, vec_len};
 ghost use Rattle.network.specs.Values.{value};
 ghost use Rattle.run.specs.Playing.{AllOut, Opens, Crosses, Closes, PlaysOn};
 
-use crate::parts::{arrive, begin, count, packet_over};
+use crate::parts::{count, packet_over};
 use crate::player::Player;
-use network::Multicast;
 
-impl Player {
+impl Player<'_> {
     // The source takes in a message.
-    fn open(self, bytes: &[u8]) -> Player
-        requires nodes { 0 < vec_len self.nodes }
-        requires early { self.round < 2 ^ 32 }
-        ensures opens { Opens self result bytes.now }
-        ensures same { (vec_len result.nodes ≡ vec_len self.nodes) × (result.round ≡ self.round) × (vec_len result.counts ≡ vec_len self.counts) }
+    fn open(&mut self, bytes: &[u8])
+        requires { self.old.round < 2 ^ 32 }
+        ensures opens { Opens self.old self.new bytes.now }
+        ensures same { (self.new.net ≡ self.old.net) × (self.new.round ≡ self.old.round) }
     {
-        let Player {
-            nodes,
-            spare,
-            round,
-            counts,
-        } = self;
-        let (nodes, spare) = begin(nodes, spare, round as u32, bytes);
-        Player {
-            nodes,
-            spare,
-            round,
-            counts,
-        }
+        // messages come in order: it is taken
+        let _ = self.nodes[0].take_message(self.round as u32, bytes);
     }
 
     // The packet of link k goes from its beginning to its end.
-    fn cross(self, net: &Multicast, k: usize) -> Player
-        requires link { k < vec_len net.now.network.from }
-        requires nodes { vec_len self.nodes ≡ net.now.network.nodes }
-        requires counts { vec_len self.counts ≡ vec_len net.now.network.from }
-        requires early { self.round < 2 ^ 32 }
-        ensures crosses { Crosses (value net.now) k (k + 1) self result }
-        ensures same { (vec_len result.nodes ≡ vec_len self.nodes) × (result.round ≡ self.round) × (vec_len result.counts ≡ vec_len self.counts) }
+    fn cross(&mut self, k: usize)
+        requires link { k < vec_len self.old.net.now.network.links }
+        requires early { self.old.round < 2 ^ 32 }
+        ensures crosses { Crosses (value self.old.net.now) k (k + 1) self.old self.new }
+        ensures same { (self.new.net ≡ self.old.net) × (self.new.round ≡ self.old.round) }
     {
-        let Player {
-            nodes,
-            spare,
-            round,
-            counts,
-        } = self;
-        let from = net.network.from[k] as usize;
-        let to = net.network.to[k] as usize;
-        let packet = packet_over(&nodes[from], k as u16, round);
-        let counts = count(counts, k, &packet);
-        let (nodes, spare) = arrive(nodes, spare, to, k as u16, round as u32, &packet);
-        Player {
-            nodes,
-            spare,
-            round,
-            counts,
+        let link = &self.net.network.links[k];
+        let packet = packet_over(&self.nodes[link.from as usize], k as u16, self.round);
+        count(&mut self.counts, k, &packet);
+        // the only one of its link and round, and of the round at work: it is taken
+        let _ = self.nodes[link.to as usize].take(k as u16, self.round as u32, &packet);
+    }
+
+    // The packets of all links go over them, in order.
+    fn cross_all(&mut self)
+        requires { self.old.round < 2 ^ 32 }
+        ensures crosses { Crosses (value self.old.net.now) 0 (length (value self.old.net.now).network.links) self.old self.new }
+        ensures same { (self.new.net ≡ self.old.net) × (self.new.round ≡ self.old.round) }
+    {
+        // by number, which is what a packet is called by
+        for k in 0..self.net.network.links.len() {
+            self.cross(k);
         }
     }
 
     // The round is over.
-    fn close(self) -> Player
-        requires early { self.round < 2 ^ 32 }
-        ensures closes { Closes self result }
-        ensures same { (vec_len result.nodes ≡ vec_len self.nodes) × (result.round ≡ self.round + 1) × (vec_len result.counts ≡ vec_len self.counts) }
+    fn close(&mut self)
+        requires { self.old.round < 2 ^ 32 }
+        ensures closes { Closes self.old self.new }
+        ensures same { (self.new.net ≡ self.old.net) × (self.new.round ≡ self.old.round + 1) }
     {
-        Player {
-            nodes: self.nodes,
-            spare: self.spare,
-            round: self.round + 1,
-            counts: self.counts,
-        }
-    }
-
-    // The packets of the links from `first` to before `end` go over them, in order: those of one half, then those of the other.
-    fn cross_between(self, net: &Multicast, first: usize, end: usize) -> Player
-        requires within { (first ≤ end) × (end ≤ vec_len net.now.network.from) }
-        requires nodes { vec_len self.nodes ≡ net.now.network.nodes }
-        requires counts { vec_len self.counts ≡ vec_len net.now.network.from }
-        requires early { self.round < 2 ^ 32 }
-        ensures crosses { Crosses (value net.now) first end self result }
-        ensures same { (vec_len result.nodes ≡ vec_len self.nodes) × (result.round ≡ self.round) × (vec_len result.counts ≡ vec_len self.counts) }
-    {
-        if first == end {
-            return self;
-        }
-        if end - first == 1 {
-            return self.cross(net, first);
-        }
-        let middle = first + (end - first) / 2;
-        self.cross_between(net, first, middle)
-            .cross_between(net, middle, end)
+        self.round += 1;
     }
 
     // Plays a message, given by its bytes. There are no rounds beyond 2^32 of them.
-    pub fn play(self, net: &Multicast, bytes: &[u8]) -> Player
-        requires nodes { vec_len self.nodes ≡ net.now.network.nodes }
-        requires counts { vec_len self.counts ≡ vec_len net.now.network.from }
-        requires early { self.round < 2 ^ 32 }
-        ensures plays { PlaysOn (value net.now) self result bytes.now }
-        ensures delivers { AllOut (value net.now) result }
-        ensures same { (vec_len result.nodes ≡ vec_len self.nodes) × (result.round ≡ self.round + 1) × (vec_len result.counts ≡ vec_len self.counts) }
+    pub fn play(&mut self, bytes: &[u8])
+        requires { self.old.round < 2 ^ 32 }
+        ensures plays { PlaysOn (value self.old.net.now) self.old self.new bytes.now }
+        ensures delivers { AllOut (value self.old.net.now) self.new }
+        ensures same { (self.new.net ≡ self.old.net) × (self.new.round ≡ self.old.round + 1) }
     {
-        let links = net.network.from.len();
-        self.open(bytes).cross_between(net, 0, links).close()
+        self.open(bytes);
+        self.cross_all();
+        self.close();
     }
 }

@@ -1,16 +1,13 @@
 // Nets of several kinds, played with packets delivered in several orders: every listener must read every message, and nothing may be refused.
 // Nets and plans are those of the reference program: python3 tools/reference/vectors.py.
-ghost use Rattle.network.specs.Values.{value};
-ghost use Rattle.wire.specs.Plan.{Fits};
-ghost use Rattle.wire.specs.Values.{plan as plan_of};
 
 use gf_bytes::{PACKET_LENGTH, Packet};
 use network::Multicast;
-use relay_node::{Node, Outcome};
+use relay_node::Node;
 use std::alloc::Global;
 use std::process::Abort;
 use std::test::Fail;
-use wire::Plan;
+use wire::Fitted;
 
 struct Case {
     net: &'static [u8],
@@ -81,7 +78,6 @@ struct Flying {
 #[derive(Drop)]
 struct Scene {
     nodes: Vec<Node>,
-    spare: Node,
     flying: Vec<Flying>,
     begun: u64,
     // for each place, how many messages were read there that are the right ones
@@ -109,24 +105,14 @@ fn message(heap: Global, r: u64, rate: u8) -> Result<Vec<u8>, Fail> {
 }
 
 // A node for each place, at which nothing has come in.
-fn set_up(heap: Global, net: &Multicast, plan: &Plan) -> Result<Scene, Fail>
-    requires { Fits (value net.now) (plan_of plan.now) }
-{
-    let Ok(spare) = Node::new(heap, net, plan, 0) else {
-        return Err(Fail::new("no node"));
-    };
+fn set_up(heap: Global, fitted: &Fitted) -> Result<Scene, Fail> {
     let mut nodes = Vec::new(heap);
-    let mut heard = Vec::new(heap);
-    for p in 0..net.network.nodes {
-        let Ok(node) = Node::new(heap, net, plan, p) else {
-            return Err(Fail::new("no node"));
-        };
-        nodes.push(node)?;
-        heard.push(0u64)?;
+    for p in 0..fitted.net.network.nodes {
+        nodes.push(Node::new(heap, fitted, p)?)?;
     }
+    let heard = vec![in heap; 0u64; nodes.len()]?;
     Ok(Scene {
         nodes,
-        spare,
         flying: Vec::new(heap),
         begun: 0,
         heard,
@@ -137,8 +123,8 @@ fn set_up(heap: Global, net: &Multicast, plan: &Plan) -> Result<Scene, Fail>
 fn is_heard(node: &Node, round: u64) -> bool {
     for j in 0..node.current.len() {
         let packet = node.read(round, j);
-        for i in 0..PACKET_LENGTH {
-            if packet[i] != content(round, j, i) {
+        for (i, byte) in packet.iter().enumerate() {
+            if *byte != content(round, j, i) {
                 return false;
             }
         }
@@ -146,118 +132,65 @@ fn is_heard(node: &Node, round: u64) -> bool {
     node.current.len() > 0
 }
 
-// What a node sends and reads for the rounds that have just ended.
-fn go_on(scene: Scene, place: usize, ended: u8) -> Result<Scene, Fail> {
-    let Scene {
-        nodes,
-        spare,
-        mut flying,
-        begun,
-        mut heard,
-    } = scene;
-    if place < nodes.len() && place < heard.len() {
-        let node = &nodes[place];
+impl Scene {
+    // What a node sends and reads for the rounds that have just ended.
+    fn go_on(&mut self, place: usize, ended: u8) -> Result<(), Fail> {
+        let node = self.nodes.get(place).ok_or("no such place")?;
+        let heard = self.heard.get_mut(place).ok_or("no such place")?;
         let first = node.slots.round.saturating_sub(u64::from(ended));
         for round in first..node.slots.round {
-            for k in 0..node.outs.len() {
-                flying.push(Flying {
-                    link: node.outs[k],
+            for (k, out) in node.outs.iter().enumerate() {
+                self.flying.push(Flying {
+                    link: out.link,
                     round,
                     packet: node.mix(round, k),
                 })?;
             }
             if is_heard(node, round) {
-                heard[place] = heard[place].saturating_add(1);
+                *heard = heard.saturating_add(1);
             }
         }
+        Ok(())
     }
-    Ok(Scene {
-        nodes,
-        spare,
-        flying,
-        begun,
-        heard,
-    })
-}
 
-fn ended(outcome: Outcome) -> Result<u8, Fail> {
-    match outcome {
-        Outcome::Taken(rounds) => Ok(rounds),
-        Outcome::Refused(_) => Err(Fail::new("a packet was refused")),
+    // The source takes in the next message.
+    fn begin(&mut self, bytes: &[u8]) -> Result<(), Fail> {
+        let source = self.nodes.first_mut().ok_or("no source")?;
+        let ended = source.take_message((self.begun % 4294967296) as u32, bytes)?;
+        self.begun = self.begun.saturating_add(1);
+        self.go_on(0, ended)
     }
-}
 
-// The source takes in the next message.
-fn begin(scene: Scene, bytes: &[u8]) -> Result<Scene, Fail> {
-    let Scene {
-        mut nodes,
-        spare,
-        flying,
-        begun,
-        heard,
-    } = scene;
-    if nodes.len() == 0 {
-        return Err(Fail::new("no source"));
-    }
-    let node = std::mem::replace(&mut nodes[0], spare);
-    let (node, outcome) = node.take_message((begun % 4294967296) as u32, bytes);
-    let spare = std::mem::replace(&mut nodes[0], node);
-    let scene = Scene {
-        nodes,
-        spare,
-        flying,
-        begun: begun.saturating_add(1),
-        heard,
-    };
-    go_on(scene, 0, ended(outcome)?)
-}
-
-// A packet arrives.
-fn arrive(scene: Scene, net: &Multicast, which: usize) -> Result<Scene, Fail> {
-    let Scene {
-        mut nodes,
-        spare,
-        mut flying,
-        begun,
-        heard,
-    } = scene;
-    if which >= flying.len() {
-        return Err(Fail::new("nothing under way"));
-    }
-    let packet = flying.remove(which);
-    let link = packet.link as usize;
-    if link >= net.network.to.len() {
-        return Err(Fail::new("no such line"));
-    }
-    let place = net.network.to[link] as usize;
-    if place >= nodes.len() {
-        return Err(Fail::new("no such place"));
-    }
-    let node = std::mem::replace(&mut nodes[place], spare);
-    let (node, outcome) = node.take(
-        packet.link,
-        (packet.round % 4294967296) as u32,
-        &packet.packet,
-    );
-    let spare = std::mem::replace(&mut nodes[place], node);
-    let scene = Scene {
-        nodes,
-        spare,
-        flying,
-        begun,
-        heard,
-    };
-    go_on(scene, place, ended(outcome)?)
-}
-
-// The source begins when each place that lines come into has ended the third round before.
-fn may_begin(scene: &Scene) -> bool {
-    for node in scene.nodes.iter() {
-        if node.slots.ins.len() > 0 && scene.begun >= node.slots.round.saturating_add(3) {
-            return false;
+    // A packet arrives.
+    fn arrive(&mut self, net: &Multicast, which: usize) -> Result<(), Fail> {
+        if which >= self.flying.len() {
+            return Err(Fail::new("nothing under way"));
         }
+        let packet = self.flying.remove(which);
+        let link = net
+            .network
+            .links
+            .get(packet.link as usize)
+            .ok_or("no such line")?;
+        let place = link.to as usize;
+        let node = self.nodes.get_mut(place).ok_or("no such place")?;
+        let ended = node.take(
+            packet.link,
+            (packet.round % 4294967296) as u32,
+            &packet.packet,
+        )?;
+        self.go_on(place, ended)
     }
-    scene.begun < MESSAGES
+
+    // The source begins when each place that lines come into has ended the third round before.
+    fn may_begin(&self) -> bool {
+        for node in &self.nodes {
+            if node.slots.ins.len() > 0 && self.begun >= node.slots.round.saturating_add(3) {
+                return false;
+            }
+        }
+        self.begun < MESSAGES
+    }
 }
 
 // Which packet arrives next, of as many as are under way.
@@ -277,20 +210,20 @@ fn choose(order: Order, turn: u64, count: usize) -> usize {
 }
 
 fn check_net(rt: &impl Abort, heap: Global, case: &Case, order: Order) -> Result<(), Fail> {
-    let Ok(net) = network::read(heap, case.net) else {
-        return Err(Fail::new("not a net"));
+    let net = network::read(heap, case.net).map_err(|_| Fail::new("not a net"))?;
+    let plan = wire::read(heap, &net, case.plan).map_err(|_| Fail::new("not a plan"))?;
+    let fitted = Fitted {
+        net: &net,
+        plan: &plan,
     };
-    let Ok(plan) = wire::read(heap, &net, case.plan) else {
-        return Err(Fail::new("not a plan"));
-    };
-    let mut scene = set_up(heap, &net, &plan)?;
+    let mut scene = set_up(heap, &fitted)?;
     for turn in 0..10000u64 {
-        if may_begin(&scene) {
+        if scene.may_begin() {
             let bytes = message(heap, scene.begun, net.rate)?;
-            scene = begin(scene, &bytes)?;
+            scene.begin(&bytes)?;
         } else if scene.flying.len() > 0 {
             let which = choose(order, turn, scene.flying.len());
-            scene = arrive(scene, &net, which)?;
+            scene.arrive(&net, which)?;
         } else {
             break;
         }
@@ -298,16 +231,16 @@ fn check_net(rt: &impl Abort, heap: Global, case: &Case, order: Order) -> Result
     assert_eq!(rt; scene.begun, MESSAGES);
     assert_eq!(rt; scene.flying.len(), 0);
     for p in net.receivers.iter() {
-        let place = *p as usize;
-        if place < scene.heard.len() {
-            assert_eq!(rt; scene.heard[place], MESSAGES);
-        }
+        assert_eq!(rt;
+            *scene.heard.get(*p as usize).ok_or("no such place")?,
+            MESSAGES
+        );
     }
     Ok(())
 }
 
 fn check_all(rt: &impl Abort, heap: Global, order: Order) -> Result<(), Fail> {
-    for case in CASES.iter() {
+    for case in &CASES {
         check_net(rt, heap, case, order)?;
     }
     Ok(())

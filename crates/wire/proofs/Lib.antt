@@ -4,5 +4,5 @@ pub mod Served
 pub mod Cut
 pub mod Whole
 pub mod Fitting
-pub mod Loops
+pub mod Made
 pub mod Reading

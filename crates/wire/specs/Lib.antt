@@ -2,3 +2,4 @@ pub mod Plan
 pub mod Format
 pub mod Faults
 pub mod Values
+pub mod Fitted

@@ -3,7 +3,7 @@
 --   Behind, Refuses, Reads    what a part of the reader tells of its items
 --   Answers, Settled  what the answer of `read` says of the bytes, and that a fault it tells does not depend on what lies behind
 -- Assumes nothing.
-use Rattle.std.specs.Prelude.{◌≡◌, ℕ, ◌<◌, ◌≤◌, List, [], map, length, drop, Ok, Err, vec_items, Result}
+use Rattle.std.specs.Prelude.{◌≡◌, ℕ, ◌<◌, ◌≤◌, List, [], map, Ok, Err, vec_items, Result}
 use Rattle.network.specs.Network.{Multicast}
 use Rattle.wire.specs.Plan.{Reader, Plan, served, unserved}
 use Rattle.wire.specs.Format.{Read, got, fault, read_plan, Local}
@@ -12,6 +12,7 @@ use Rattle.wire.specs.declared.fault.ReadError.{ReadError}
 use Rattle.wire.specs.declared.fault.ReadError.TheVariants.{Faulty, Memory}
 use Rattle.wire.specs.declared.plan.Decoder.{Decoder}
 use Rattle.wire.specs.declared.plan.Plan.{Plan as Value}
+use Rattle.wire.specs.declared.rest.Rest.{Rest}
 use Rattle.wire.specs.declared.plan.Plan.TheVariants.{Served, Unserved}
 
 abbrev pub reader : Decoder → Reader
@@ -31,10 +32,10 @@ abbrev pub Refuses : {A : Type 0} → Read A → ReadError → Type 0
 Refuses v (Faulty f at) = (stop : ℕ) × (v ≡ fault (number f) at stop)
 Refuses v (Memory at) = Behind at v
 
--- of the bytes bs; the value, and where the rest begins
-abbrev pub Reads : {A V : Type 0} → (V → A) → List ℕ → Read A → Result (V × ℕ) ReadError → Type 0
-Reads value bs v (Ok x) = (v ≡ got (value x.0) x.1 (drop x.1 bs)) × (x.1 ≤ length bs)
-Reads value bs v (Err e) = Refuses v e
+-- the value, and what is left
+abbrev pub Reads : {A V : Type 0} → (V → A) → Read A → Rest → Result V ReadError → Type 0
+Reads value v rest (Ok x) = v ≡ got (value x) rest.at rest.bytes.now
+Reads value v rest (Err e) = Refuses v e
 
 abbrev pub Answers : Multicast → List ℕ → Result Value ReadError → Type 0
 Answers m bs (Ok p) = (at : ℕ) × (read_plan m bs ≡ got (plan p) at [])

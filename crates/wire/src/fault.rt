@@ -1,18 +1,22 @@
 // What can be wrong with the bytes of a plan.
-ghost use Rattle.std.specs.Prelude.{◌≡◌};
-ghost use Rattle.wire.specs.Faults.{number, text};
+ghost use Rattle.std.specs.Prelude.{◌≡◌, Some};
+ghost use Rattle.wire.specs.Faults.{number, text, message};
 
-#[derive(Clone, Copy)]
+use std::error::Error;
+use std::fmt;
+
+#[derive(Clone, Copy, Debug, PartialEq, Eq)]
 pub enum Fault {
     // an unknown kind, an item that is cut short, or bytes left over
-    Malformed,
+    Malformed = 1,
     // a cut with a node that is not there
-    OutOfRange,
+    OutOfRange = 2,
     // a plan that is not for this net
-    Unfit,
+    Unfit = 9,
 }
 
-#[derive(Clone, Copy)]
+// As network's, but for the byte that want of memory has, and for the faults.
+#[derive(Clone, Copy, Debug, PartialEq, Eq)]
 pub enum ReadError {
     // the fault, and the byte at which the item that has it begins
     Faulty(Fault, usize),
@@ -24,11 +28,7 @@ impl Fault {
     pub fn number(self) -> u8
         ensures { result ≡ number self }
     {
-        match self {
-            Fault::Malformed => 1,
-            Fault::OutOfRange => 2,
-            Fault::Unfit => 9,
-        }
+        self as u8
     }
 
     // The fault in the words of the format.
@@ -42,3 +42,28 @@ impl Fault {
         }
     }
 }
+
+impl fmt::Display for Fault {
+    ghost output = { λ fault. Some (text fault) };
+
+    fn fmt<W: fmt::Write>(&self, f: &mut fmt::Formatter<W>) -> fmt::Result {
+        f.write_str(self.text())
+    }
+}
+
+impl Error for Fault {}
+
+impl fmt::Display for ReadError {
+    ghost output = { λ error. Some (message error) };
+
+    fn fmt<W: fmt::Write>(&self, f: &mut fmt::Formatter<W>) -> fmt::Result {
+        match self {
+            ReadError::Faulty(fault, at) => {
+                write!(f, "fault {} at byte {at}: {fault}", fault.number())
+            }
+            ReadError::Memory(_) => write!(f, "not enough memory"),
+        }
+    }
+}
+
+impl Error for ReadError {}

@@ -2,22 +2,22 @@
 ghost use Rattle.std.specs.Prelude.{◌≡◌, ℕ, ◌+◌, ◌<◌, ◌≤◌, [], ◌++◌, map, length, IfOk, vec_items, OnOk};
 ghost use Rattle.std.specs.List.{flat_map, AllByRecursion};
 ghost use Rattle.network.specs.Values.{value};
-ghost use Rattle.wire.specs.Plan.{served, unserved, Fits};
+ghost use Rattle.wire.specs.Plan.{served, unserved};
 ghost use Rattle.wire.specs.Format.{got, link_bytes, reader_bytes, flag_byte, side_bytes, plan_bytes, read_plan};
 ghost use Rattle.wire.specs.Values.{reader, plan as planned};
 
+use crate::fitted::Fitted;
 use crate::plan::{Coded, Decoder, Plan};
-use network::Multicast;
 use octets::{put_word, put_words};
 use std::alloc::{AllocError, Global};
+use std::array;
 
-// The bytes of a plan that fits the net, from which it is read back.
-pub fn write(heap: Global, net: &Multicast, plan: &Plan) -> Result<Vec<u8>, AllocError>
-    requires { Fits (value net.now) (planned plan.now) }
-    ensures bytes { IfOk result (λ v. v.items ≡ plan_bytes (planned plan.now)) }
-    ensures back { IfOk result (λ v. (at : ℕ) × (read_plan (value net.now) v.items ≡ got (planned plan.now) at [])) }
+// The bytes of a plan, from which it is read back for its net.
+pub fn write(heap: Global, fitted: &Fitted) -> Result<Vec<u8>, AllocError>
+    ensures bytes { IfOk result (λ v. v.items ≡ plan_bytes (planned fitted.now.plan.now)) }
+    ensures back { IfOk result (λ v. (at : ℕ) × (read_plan (value fitted.now.net.now) v.items ≡ got (planned fitted.now.plan.now) at [])) }
 {
-    match plan {
+    match fitted.plan {
         Plan::Served(coded) => write_served(heap, coded),
         Plan::Unserved { receiver, side } => write_cut(heap, *receiver, side),
     }
@@ -78,7 +78,7 @@ fn put_decoders(out: &mut Vec<u8>, decoders: &[Decoder]) -> Result<(), AllocErro
     Ok(())
 }
 
-// The flags of the eight nodes from `first` on, the first the lowest bit.
+// The flags of the eight nodes from `first` on, the first the lowest bit. A fold would hide which bit is whose.
 fn flag_byte(side: &[bool; 256], first: usize) -> u8
     requires { first + 8 ≤ 256 }
     ensures { result ≡ flag_byte side.now first }
@@ -97,8 +97,5 @@ fn flag_byte(side: &[bool; 256], first: usize) -> u8
 fn put_side(out: &mut Vec<u8>, side: &[bool; 256]) -> Result<(), AllocError>
     ensures { OnOk result (out.new.items ≡ out.old.items ++ side_bytes side.now) }
 {
-    for i in 0..32usize {
-        out.push(flag_byte(side, 8 * (31 - i)))?;
-    }
-    Ok(())
+    out.extend_from_slice(&array::from_fn::<u8, 32, _>(|i| flag_byte(side, 8 * (31 - i))))
 }

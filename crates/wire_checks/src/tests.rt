@@ -5,7 +5,7 @@ use network::Multicast;
 use std::alloc::{AllocError, Global};
 use std::process::Abort;
 use std::test::Fail;
-use wire::ReadError;
+use wire::{Fault, Fitted, ReadError};
 
 // The net of nine lines but for its rate: 0-1, 0-2, 1-3, 1-5, 2-3, 2-6, 3-4, 4-5, 4-6; listeners 5 and 6.
 const LINES: &[u8; 41] =
@@ -245,7 +245,8 @@ fn answer(
 ) -> Result<(u8, usize), Fail> {
     match wire::read(heap, net, bytes) {
         Ok(plan) => {
-            assert_eq!(rt; wire::write(heap, net, &plan)?.as_slice(), bytes);
+            let fitted = Fitted { net, plan: &plan };
+            assert_eq!(rt; wire::write(heap, &fitted)?.as_slice(), bytes);
             Ok((0, 0))
         }
         Err(ReadError::Faulty(fault, at)) => Ok((fault.number(), at)),
@@ -290,5 +291,16 @@ fn other_plans(rt: HostRuntime) -> Result<(), Fail> {
     let mut twice = Vec::from_slice(heap, SERVED)?;
     twice.extend_from_slice(SERVED)?;
     assert_eq!(rt; answer(&rt, heap, &low, &twice)?, (1, 48));
+    Ok(())
+}
+
+#[test]
+fn printed(rt: HostRuntime) -> Result<(), Fail> {
+    let heap = rt.alloc();
+    let unfit = ReadError::Faulty(Fault::Unfit, 2);
+    assert!(rt;
+        unfit.to_string(heap)?.as_str() == "fault 9 at byte 2: a plan that isn't for this net"
+    );
+    assert!(rt; ReadError::Memory(2).to_string(heap)?.as_str() == "not enough memory");
     Ok(())
 }

@@ -28,7 +28,9 @@ use Rattle.wire.specs.Plan.{Plan, served, unserved}
 use Rattle.wire.specs.Format.{flag_byte, plan_bytes}
 use Rattle.planner_theory.specs.Plan.{plan_of, route}
 use Rattle.planner_theory.specs.Promise.{on_links, reader_at}
-use Rattle.worked_examples.specs.Table.{nine2, nine3, one, two, unreached, nineteen, nine_plan, nine_bytes, cut_bytes, nineteen_plan, coefficients, readers, Holds, planned, refused, sums, beside, table, Every}
+use Rattle.std.specs.List.{All}
+use Rattle.std.proofs.lemmas.List.Elements.{All-from_recursion}
+use Rattle.worked_examples.specs.Table.{nine2, nine3, one, two, unreached, nineteen, nine_plan, nine_bytes, cut_bytes, nineteen_plan, coefficients, readers, Holds, planned, refused, sums, beside, table}
 
 -- COMPUTED PLANS
 
@@ -164,13 +166,10 @@ unreached-refused : Holds (refused unreached 2 (true ∷ true ∷ replicate 254 
 unfolding out paired
 unreached-refused = (unreached-plan, refl)
 
-pub all_hold : Every Holds table
+pub all_hold : All Holds table
 unfolding mul horner xtime flags paired out listed flagged is_reached links_to add go_on search turn_all follow parted augment
-all_hold = (
-  refl,
-  (
-    refl,
-    (
+all_hold =
+    All-from_recursion Holds table (
       refl,
       (
         refl,
@@ -183,22 +182,28 @@ all_hold = (
               (
                 refl,
                 (
-                  nine2-plan,
+                  refl,
                   (
-                    ap plan_bytes nine2-plan ∙ nine2-bytes,
+                    refl,
                     (
-                      ap (λ p. row (coefficients p) 6) nine2-plan,
+                      nine2-plan,
                       (
-                        nine2-sums,
+                        ap plan_bytes nine2-plan ∙ nine2-bytes,
                         (
-                          nine3-refused,
+                          ap (λ p. row (coefficients p) 6) nine2-plan,
                           (
-                            ap plan_bytes nine3-plan ∙ nine3-bytes,
+                            nine2-sums,
                             (
-                              one-plan,
+                              nine3-refused,
                               (
-                                two-plan,
-                                (nineteen-plan, (nineteen-beside, (unreached-refused, tt))),
+                                ap plan_bytes nine3-plan ∙ nine3-bytes,
+                                (
+                                  one-plan,
+                                  (
+                                    two-plan,
+                                    (nineteen-plan, (nineteen-beside, (unreached-refused, tt))),
+                                  ),
+                                ),
                               ),
                             ),
                           ),
@@ -212,6 +217,4 @@ all_hold = (
           ),
         ),
       ),
-    ),
-  ),
-)
+    )

@@ -5,7 +5,6 @@
 --   Row                     an example; there is a constructor for each kind
 --   Holds                   what an example says
 --   table                   the examples
---   Every                   what holds of each element of a list
 use Rattle.std.specs.Prelude.{◌≡◌, Bool, true, false, List, [], ◌∷◌, ◌++◌, ℕ, get_or, set, replicate}
 use Rattle.gf.specs.Polynomial.{mul}
 use Rattle.gf.proofs.Fields.{byte_field}
@@ -159,7 +158,3 @@ table =
     -- a receiver that no link reaches: a cut out of which no link leads
     ∷ refused unreached 2 (true ∷ true ∷ replicate 254 false) 0
     ∷ []
-
-abbrev pub Every : {A : Type 0} → (A → Type 0) → List A → Type 0
-Every P [] = Unit {0}
-Every P (x ∷ xs) = P x × Every P xs

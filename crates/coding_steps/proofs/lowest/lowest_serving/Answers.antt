@@ -1,7 +1,7 @@
 use Rattle.std.proofs.Common.{◌≡◌, ◌+◌, sym, refl, ◌∙◌, arith}
 use Rattle.linear.specs.Lowest.{lowest}
 use Rattle.coding_steps.specs.Products.{all_served}
-use Rattle.coding_steps.proofs.Products.{lowest-here, lowest-later, lowest-none}
+use Rattle.coding_steps.proofs.First.{lowest-here, lowest-later, lowest-none}
 use Rattle.coding_steps.proofs.lowest.lowest_serving.Goals as goal
 
 pub search-init : goal.search-init

@@ -1,25 +1,45 @@
-use Rattle.std.proofs.Common.{◌≡◌, map, length, vec_items, sym, ap, ◌∙◌, arith}
-use lib.ListN.{length-map}
+use Rattle.std.proofs.Common.{◌≡◌, ℕ, suc, ◌||◌, inl, inr, one-add, ◌<◌, ◌≤◌, Bool, cond, ltb, eqb, List, [], ◌∷◌, map, length, vec_items, Some, None, MatchOption, Vec, Global, sym, refl, ap, ◌∙◌, ap₂, arith, rules, tests}
+use Rattle.std.specs.List.{list_any, position_or_len}
+use Rattle.std.proofs.lemmas.Iterator.{YieldsList-from_slice}
+use Rattle.std.proofs.lemmas.Iterator.Search.{position_from_yields_List}
+use Rattle.std.proofs.lemmas.List.Recursion.{is_position_or_len}
+use native.Mathlib.Decide.{dec_lt}
+use Rattle.std.proofs.lemmas.Bool.{eq-eqb, ne_eqb, cases_eq, lt-ltb, le-ltb}
 use Rattle.coding_theory.specs.Paths.{is_on}
-use Rattle.coding_steps.proofs.Places.{row_of, place_here, place-later, place_end}
+use Rattle.coding_theory.specs.Coding.{place}
 use Rattle.coding_steps.proofs.paths.place.Goals as goal
 
-pub loop-j-init : goal.loop-j-init
-loop-j-init c = omega arith
+abbrev has : ℕ → List ℕ → Bool
+has e w = list_any (λ y. eqb y e) w
 
-pub returns-then-is_on : goal.returns-then-is_on
-returns-then-is_on c =
-    let e = row_of vec_items c.args.paths.now c.loop-j.j c.index-paths-j.result c.loop-j-test.true c.index-paths-j.is ∙ sym c.deref.ensures.value in
-    sym (place_here c.args.link (map vec_items c.args.paths.now) c.loop-j.j (omega (arith, length-map c.args.paths.now vec_items))
-    (ap (is_on c.args.link) e ∙ sym c.if-is_on.ensures)) ∙ c.loop-j.invariant
+turned : (e x : ℕ) → eqb e x ≡ eqb x e
+turned e x =
+    elim (cases_eq e x) [
+      | inl q ↦ eq-eqb e x q ∙ sym (eq-eqb x e (sym q))
+      | inr ne ↦ ne_eqb e x ne ∙ sym (ne_eqb x e (λ q. ne (sym q)))
+    ]
 
-pub loop-j-preserved : goal.loop-j-preserved
-loop-j-preserved c =
-    let e = row_of vec_items c.args.paths.now c.loop-j.j c.index-paths-j.result c.loop-j-test.true c.index-paths-j.is ∙ sym c.deref.ensures.value in
-    place-later c.args.link (map vec_items c.args.paths.now) c.loop-j.j (omega (arith, length-map c.args.paths.now vec_items))
-    (ap (is_on c.args.link) e ∙ sym c.if-is_on.ensures) ∙ c.loop-j.invariant
+on-has : (e : ℕ) (w : List ℕ) → is_on e w ≡ has e w
+unfolding is_on
+on-has e [] = refl
+on-has e (x ∷ w) = ap₂ (λ a b. a || b) (turned e x) (on-has e w)
+
+place-first : (e : ℕ) (ps : List (Vec ℕ Global)) → place e (map vec_items ps) ≡ position_or_len (λ p. has e (vec_items p)) ps
+unfolding place
+place-first e =
+    is_position_or_len (λ ps. place e (map vec_items ps)) (λ p. has e (vec_items p)) refl (λ p ps. rw one-add (ap (λ b. cond b 0 (suc (place e (map vec_items ps)))) (on-has e (vec_items p))))
+
+decided : (n k : ℕ) → MatchOption (cond (ltb k n) (Some k) None) (n ≤ k) (λ j. (j < n) × (j ≡ k))
+decided n k =
+    elim (dec_lt k n) [
+      | yes l ↦ rw (lt-ltb k n l) (l, refl)
+      | no ne ↦ let le : n ≤ k = omega arith in rw (le-ltb k n le) le
+    ]
 
 pub returns : goal.returns
 returns c =
-    let all : length c.args.paths.now ≡ c.loop-j.j = omega arith in
-    all ∙ sym (place_end c.args.link (map vec_items c.args.paths.now) c.loop-j.j (omega (arith, length-map c.args.paths.now vec_items))) ∙ c.loop-j.invariant
+    let e = c.args.link in
+    let ps = c.args.paths.now in
+    let at : c.position.result ≡ cond (ltb (position_or_len (λ p. has e (vec_items p)) ps) (length ps)) (Some (position_or_len (λ p. has e (vec_items p)) ps)) None =
+    position_from_yields_List (λ p. has e (vec_items p)) _ _ c.position.result c.position.ensures.ran (YieldsList-from_slice ps (cc)) (λ x b q k. search (rules, tests)) in
+    rw (at, place-first e ps) (decided (length ps) (position_or_len (λ p. has e (vec_items p)) ps))

@@ -4,4 +4,7 @@ use Rattle.flow_theory.specs.Flow.{parted}
 use Rattle.flow.proofs.decomposition.part.Given as goal
 
 abbrev pub invariant-loop : goal.invariant-loop
-invariant-loop l = parted (graph l.network).links l.receiver l.count l.initial.used ≡ map vec_items (vec_items l.paths) ++ parted (graph l.network).links l.receiver (l.count - l.counter) l.used
+invariant-loop l =
+    let ls = (graph l.initial.search.adjacency.now.network.now).links in
+    (l.search.adjacency ≡ l.initial.search.adjacency)
+    × (parted ls l.receiver l.count (vec_items l.initial.search.used) ≡ map vec_items (vec_items l.paths) ++ parted ls l.receiver (l.count - l.counter) (vec_items l.search.used))

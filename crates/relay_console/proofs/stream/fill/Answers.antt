@@ -1,4 +1,4 @@
-use Rattle.std.proofs.Common.{◌≡◌, ℕ, ◌+◌, ◌-◌, ◌≤◌, List, ◌++◌, rules, arith, length, take, sym, ap, ◌∙◌, subst, length-take-le}
+use Rattle.std.proofs.Common.{◌≡◌, ℕ, ◌+◌, ◌-◌, ◌≤◌, List, ◌++◌, rules, length, take, sym, ap, ◌∙◌, subst, length-take-le}
 use Rattle.std.proofs.Math.Seq.{take-append-add}
 use Rattle.std.proofs.lemmas.List.{take-append-le}
 use Rattle.std.specs.Io.KnownBytes.{Consumes}
@@ -13,14 +13,13 @@ take-put_mid a k n xs ys within fits =
     sym (ap (λ m. take (m + n) (put_mid a k xs ys)) (sym long) ∙ take-append-add (take a xs) (ys ++ post_of a k xs) n
     ∙ ap (λ l. take a xs ++ l) (take-append-le n ys (post_of a k xs) fits))
 
-pub loop-turn-preserved : goal.loop-turn-preserved
-loop-turn-preserved g c =
-    let at = c.loop-turn.at in
-    let room = length c.loop-turn.bytes - at in
-    let inv = c.loop-turn.invariant in
+pub loop-at-preserved : goal.loop-at-preserved
+loop-at-preserved g c =
+    let at = c.loop-at.at in
+    let room = length c.loop-at.bytes - at in
+    let inv = c.loop-at.invariant in
     record {
       long = search rules;
       within = search rules;
-      on = omega arith;
-      next = subst (Consumes _ _) (take-put_mid at room c.in_ok-n.n c.loop-turn.bytes c.read.new.buf inv.within c.in_ok-n.ensures.bound.0) (Consumes-trans _ _ _ _ _ inv.next c.in_ok-n.ensures.bytes.0);
+      next = subst (Consumes _ _) (take-put_mid at room c.in_ok-n.n c.loop-at.bytes c.read.new.buf inv.within c.in_ok-n.ensures.bound.0) (Consumes-trans _ _ _ _ _ inv.next c.in_ok-n.ensures.bytes.0);
     }

@@ -1,12 +1,10 @@
-use Rattle.std.proofs.Common.{sym, arith}
-use Rattle.relay_memory.proofs.Memory.{place-first, not_in}
+use Rattle.std.proofs.Common.{◌≡◌, rules, tests}
+use Rattle.std.proofs.lemmas.Iterator.{YieldsList-from_slice, IsFirst-from_position}
+use Rattle.relay_memory.proofs.Memory.{found}
 use Rattle.relay_memory.proofs.links.position.Goals as goal
 
 pub returns : goal.returns
-returns c = not_in _ _ (λ i l. c.loop-i.invariant i (omega arith))
-
-pub returns-then-n-number : goal.returns-then-n-number
-returns-then-n-number c =
-    let l = c.loop-i-test.true in
-    let e = c.if-n-number.true in
-    (l, e, sym (place-first _ _ c.loop-i.i l e c.loop-i.invariant))
+returns c =
+    let k = c.args.number in
+    found k c.args.numbers.now _
+    (IsFirst-from_position _ _ _ (λ n. n ≡ k) (λ n. n ≡ k → ⊥) c.position.ensures.ran (YieldsList-from_slice c.args.numbers.now cc) (λ x q h. search (rules, tests)) (λ x q h. search (rules, tests)))

@@ -1,20 +1,22 @@
-use Rattle.std.proofs.Common.{◌≡◌, ℕ, ◌≤◌, Bool, true, false, List, get_or, sym, refl, ◌∙◌, inl, inr, arith}
-use Rattle.std.proofs.lemmas.List.{get_or_past}
-use Rattle.std.proofs.lemmas.Bool.{cases_Bool, cases_lt, both_ways}
+use Rattle.std.proofs.Common.{rules, ◌≡◌, ℕ, zero, suc, Bool, ◌||◌, List, [], ◌∷◌, drop, sym, refl, ap, ◌∙◌}
+use Rattle.std.specs.List.{list_any}
+use Rattle.std.proofs.lemmas.Iterator.{YieldsList-from_slice}
+use Rattle.std.proofs.lemmas.Iterator.Adapters.{YieldsList-from_skip}
+use Rattle.std.proofs.lemmas.Iterator.Search.{any_from_yields_List}
 use Rattle.wire.specs.Format.{beyond}
-use Rattle.wire.proofs.Cut.{beyond-false, false-beyond}
 use Rattle.wire.proofs.reader.is_beyond.Goals as goal
+use borrow.Author.Tests.{tests}
 
-true-beyond : (nodes : ℕ) (side : List Bool) (q : ℕ) → get_or side q false ≡ true → nodes ≤ q → beyond nodes side ≡ true
-true-beyond nodes side q t h = elim (cases_Bool (beyond nodes side)) [ inl e ↦ e | inr e ↦ absurd (let l = beyond-false nodes side e q t in omega arith) ]
-
-pub returns-then-p-nodes : goal.returns-then-p-nodes
-returns-then-p-nodes c = sym (true-beyond c.args.nodes c.args.side.now c.loop-p.p c.if-side-p.true c.if-p-nodes.true)
+-- the definition as a search
+as_search : (n : ℕ) (side : List Bool) → beyond n side ≡ list_any (λ flag. flag) (drop n side)
+unfolding beyond
+as_search zero [] = refl
+as_search (suc n) [] = refl
+as_search zero (b ∷ side) = ap (λ t. b || t) (as_search zero side)
+as_search (suc n) (b ∷ side) = as_search n side
 
 pub returns : goal.returns
 returns c =
-    let side : List Bool = c.args.side.now in
-    sym (false-beyond c.args.nodes side (λ q t. elim (cases_lt q 256) [
-      | inl l ↦ c.loop-p.invariant q (omega (arith, c.loop-p-test.false)) t
-      | inr l ↦ absurd (both_ways false refl (sym (get_or_past side q false (omega (arith, c.told-side))) ∙ t))
-    ]))
+    any_from_yields_List (λ flag. flag) _ _ c.any.result c.any.ensures.ran (YieldsList-from_skip c.args.nodes (YieldsList-from_slice c.args.side.now (cc)) c.skip.ensures.count)
+    (λ x b q k. search (rules, tests))
+    ∙ sym (as_search c.args.nodes c.args.side.now)

@@ -1,64 +1,78 @@
-use Rattle.std.proofs.Common.{◌≡◌, ℕ, ◌+◌, List, [], ◌∷◌, ◌++◌, map, drop, vec_items, sym, ap, ◌∙◌, subst, arith}
-use Rattle.std.proofs.lemmas.List.{map_push}
+use Rattle.std.proofs.Common.{rules, ◌≡◌, ℕ, ◌+◌, ◌<◌, List, [], ◌∷◌, ◌++◌, map, length, get_or, drop, vec_items, sym, ap, ◌∙◌, subst, arith}
+use Rattle.std.proofs.lemmas.List.{map_push, get_or_default}
 use Rattle.std.proofs.lemmas.Result.{err_from_is_err_and}
 use Rattle.network.specs.Network.{Link}
 use Rattle.network.specs.Values.{graph}
 use Rattle.wire.specs.Plan.{Reader}
-use Rattle.wire.specs.Format.{Read, each, reader_item}
+use Rattle.wire.specs.Format.{each, reader_item}
 use Rattle.wire.specs.Values.{Behind, reader}
-use Rattle.wire.specs.declared.fault.ReadError.TheVariants.{Memory}
-use Rattle.wire.proofs.Reading.{after_all, one_more, one-refused, all_read, reader-grows}
+use Rattle.wire.proofs.Reading.{after_all, one_more, one-refused, all_read, reader-grows, memory-told, passed-on}
 use Rattle.wire.proofs.Served.{reader-lawful}
 use Rattle.wire.proofs.reader.read_decoders.Goals as goal
+use borrow.Author.Tests.{tests}
+
+-- what the program reads of the receivers
+module _ (ps qs : List ℕ) (i : ℕ) (e : qs ≡ ps) (h : i < length qs) where
+  inside : i < length ps
+  inside = omega (arith, ap length e)
+
+  itself : get_or qs i 0 ≡ get_or ps i (get_or qs i 0)
+  itself = ap (λ l. get_or l i 0) e ∙ get_or_default ps i 0 (get_or qs i 0) inside
 
 pub returns-in_err-decoder : goal.returns-in_err-decoder
 returns-in_err-decoder c =
     let net = c.args.net.now in
-    let bs : List ℕ = c.args.bytes.now in
+    let left = c.loop-receiver.rest in
     let ls : List Link = (graph net.network).links in
     let ps : List ℕ = vec_items net.receivers in
+    let places = c.deref-receiver-items.ensures in
+    let i : ℕ = c.loop-receiver.receiver-index in
+    let h = c.loop-receiver-test.true in
+    let node : ℕ = get_or c.deref-receiver-items.result.now i 0 in
     let p = err_from_is_err_and c.from_residual.result c.from_residual.ensures.1 in
     rw (p.1, p.2)
-    (one-refused (reader_item ls net.rate) (reader-lawful ls net.rate) bs ps (each (reader_item ls net.rate) ps c.args.start (drop c.args.start bs)) (map reader (vec_items c.loop-i.decoders))
-    c.loop-i.i c.loop-i.at c.index.result.now (omega (arith, c.loop-i-test.true, c.len-i-end.ensures, net.receivers.ok.0)) c.index.ensures c.loop-i.invariant.0 _ c.in_err-decoder.ensures)
+    (one-refused (reader_item ls net.rate) (reader-lawful ls net.rate) ps _ (map reader (vec_items c.loop-receiver.decoders)) i left.at left.bytes.now node (inside ps _ i places.value h)
+    (itself ps _ i places.value h) c.loop-receiver.invariant _ c.in_err-decoder.ensures)
 
-pub returns-in_default : goal.returns-in_default
-returns-in_default c =
+pub returns-in_err-map_err : goal.returns-in_err-map_err
+returns-in_err-map_err c =
     let net = c.args.net.now in
-    let bs : List ℕ = c.args.bytes.now in
+    let left = c.loop-receiver.rest in
     let ls : List Link = (graph net.network).links in
     let ps : List ℕ = vec_items net.receivers in
-    let at : ℕ = c.loop-i.at in
-    let node : ℕ = c.index.result.now in
-    let read = c.in_ok-decoder.ensures.0 in
-    one-refused (reader_item ls net.rate) (reader-lawful ls net.rate) bs ps (each (reader_item ls net.rate) ps c.args.start (drop c.args.start bs)) (map reader (vec_items c.loop-i.decoders))
-    c.loop-i.i at node (omega (arith, c.loop-i-test.true, c.len-i-end.ensures, net.receivers.ok.0)) c.index.ensures c.loop-i.invariant.0 (Memory at)
-    (subst (Behind at) (sym read)
-    (reader-grows ls net.rate node at (drop at bs) (reader c.in_ok-decoder.decoder) c.in_ok-decoder.next (drop c.in_ok-decoder.next bs) net.rates.0 read))
+    let places = c.deref-receiver-items.ensures in
+    let i : ℕ = c.loop-receiver.receiver-index in
+    let h = c.loop-receiver-test.true in
+    let node : ℕ = get_or c.deref-receiver-items.result.now i 0 in
+    let p = err_from_is_err_and c.from_residual-in_err-map_err.result c.from_residual-in_err-map_err.ensures.1 in
+    rw (p.1, p.2)
+    (one-refused (reader_item ls net.rate) (reader-lawful ls net.rate) ps _ (map reader (vec_items c.loop-receiver.decoders)) i left.at left.bytes.now node (inside ps _ i places.value h)
+    (itself ps _ i places.value h) c.loop-receiver.invariant _
+    (memory-told _ left.at c.push.result _ _ _ c.in_err-map_err.ensures.cases (λ x q. cc) (λ a q. search (rules, tests))
+    (subst (Behind left.at) (sym c.in_ok-decoder.ensures) (reader-grows ls net.rate node left.at left.bytes.now _ _ _ net.rates.0 c.in_ok-decoder.ensures))))
 
-pub loop-i-preserved : goal.loop-i-preserved
-loop-i-preserved c =
+pub loop-receiver-preserved : goal.loop-receiver-preserved
+loop-receiver-preserved c =
     let net = c.args.net.now in
-    let bs : List ℕ = c.args.bytes.now in
+    let left = c.loop-receiver.rest in
     let ls : List Link = (graph net.network).links in
     let ps : List ℕ = vec_items net.receivers in
-    let at : ℕ = c.loop-i.at in
-    let next : ℕ = c.in_ok-decoder.next in
-    let whole : Read (List Reader) = each (reader_item ls net.rate) ps c.args.start (drop c.args.start bs) in
-    let old : List Reader = map reader (vec_items c.loop-i.decoders) in
+    let places = c.deref-receiver-items.ensures in
+    let i : ℕ = c.loop-receiver.receiver-index in
+    let h = c.loop-receiver-test.true in
+    let node : ℕ = get_or c.deref-receiver-items.result.now i 0 in
+    let next = c.read_decoder.new.rest in
+    let old : List Reader = map reader (vec_items c.loop-receiver.decoders) in
+    let is = passed-on c.push.result c.in_ok-map_err.field-0 _ c.in_ok-map_err.ensures.cases (λ x q. cc) in
     let new : map reader (vec_items c.push.new.self) ≡ old ++ reader c.in_ok-decoder.decoder ∷ [] =
-    ap (map reader) c.in-Ok.ensures.items ∙ map_push reader (vec_items c.loop-i.decoders) c.in_ok-decoder.decoder in
-    let more = one_more (reader_item ls net.rate) bs ps whole old c.loop-i.i at next c.index.result.now (reader c.in_ok-decoder.decoder)
-    (omega (arith, c.loop-i-test.true, c.len-i-end.ensures, net.receivers.ok.0)) c.index.ensures c.loop-i.invariant.0 c.in_ok-decoder.ensures.0 in
-    (more ∙ ap (λ l. after_all l (each (reader_item ls net.rate) (drop (c.loop-i.i + 1) ps) next (drop next bs))) (sym new), c.in_ok-decoder.ensures.1)
+    ap (map reader) (rw is at c.push.ensures.items) ∙ map_push reader (vec_items c.loop-receiver.decoders) c.in_ok-decoder.decoder in
+    one_more (reader_item ls net.rate) ps _ old i left.at next.at left.bytes.now next.bytes.now node (reader c.in_ok-decoder.decoder) (inside ps _ i places.value h)
+    (itself ps _ i places.value h) c.loop-receiver.invariant c.in_ok-decoder.ensures
+    ∙ ap (λ l. after_all l (each (reader_item ls net.rate) (drop (i + 1) ps) next.at next.bytes.now)) (sym new)
 
 pub returns : goal.returns
 returns c =
     let net = c.args.net.now in
-    let bs : List ℕ = c.args.bytes.now in
     let ls : List Link = (graph net.network).links in
-    let ps : List ℕ = vec_items net.receivers in (
-      all_read (reader_item ls net.rate) bs ps (each (reader_item ls net.rate) ps c.args.start (drop c.args.start bs)) (map reader (vec_items c.loop-i.decoders)) c.loop-i.i c.loop-i.at
-          (omega (arith, c.loop-i-test.false, c.len-i-end.ensures, net.receivers.ok.0)) c.loop-i.invariant.0,
-      c.loop-i.invariant.1,
-    )
+    all_read (reader_item ls net.rate) (vec_items net.receivers) _ (map reader (vec_items c.loop-receiver.decoders)) c.loop-receiver.receiver-index c.loop-receiver.rest.at c.loop-receiver.rest.bytes.now
+    (omega (arith, c.loop-receiver-test.false, c.deref-receiver-items.ensures.len, net.receivers.ok.0)) c.loop-receiver.invariant

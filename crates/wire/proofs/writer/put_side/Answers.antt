@@ -1,20 +1,16 @@
-use Rattle.std.proofs.Common.{◌≡◌, ℕ, ◌-◌, ◌*◌, List, [], ◌∷◌, ◌++◌, map, vec_items, sym, ap, ◌∙◌, append_assoc, arith}
-use Rattle.std.specs.List.{range_with_len}
-use Rattle.std.proofs.lemmas.List.FromFn.{map-range_with_len_more}
-use Rattle.wire.specs.Format.{flag_byte}
+use Rattle.std.proofs.Common.{rules, ◌≡◌, ℕ, ◌-◌, ◌*◌, ◌++◌, List, cond, Result, Ok, Err, OnOk, vec_items, ap, ◌∙◌}
+use Rattle.std.specs.Result.{is_ok}
+use Rattle.wire.specs.Format.{flag_byte, side_bytes}
+use Rattle.wire.proofs.Made.{made}
 use Rattle.wire.proofs.writer.put_side.Goals as goal
+use borrow.Author.Tests.{tests}
 
-pub loop-i-preserved : goal.loop-i-preserved
-loop-i-preserved c =
-    let start : List ℕ = vec_items c.args.out.now in
-    let f : ℕ → ℕ = λ i. flag_byte c.args.side.now (8 * (31 - i)) in
-    c.in_ok-push.ensures.items ∙ ap (λ l. l ++ c.flag_byte.result ∷ []) c.loop-i.invariant
-    ∙ ap (λ x. start ++ map f (range_with_len 0 c.loop-i.i) ++ x ∷ []) c.flag_byte.ensures
-    ∙ append_assoc start (map f (range_with_len 0 c.loop-i.i)) _ ∙ ap (λ l. start ++ l) (sym (map-range_with_len_more f 0 c.loop-i.i c.loop-i.i (omega arith)))
+appended : {T E : Type 0} (r : Result T E) (old new l k : List ℕ) → new ≡ cond (is_ok r) (old ++ l) old → l ≡ k → OnOk r (new ≡ old ++ k)
+appended (Ok x) old new l k e is = e ∙ ap (λ y. old ++ y) is
+appended (Err x) old new l k e is = tt
 
 pub returns : goal.returns
 returns c =
-    let start : List ℕ = vec_items c.args.out.now in
-    let f : ℕ → ℕ = λ i. flag_byte c.args.side.now (8 * (31 - i)) in
-    let all : c.loop-i.i ≡ 32 = omega (arith, c.loop-i-test.false, c.loop-i.auto.i-end) in
-    c.loop-i.invariant ∙ ap (λ n. start ++ map f (range_with_len 0 n)) all
+    let bytes : c.from_fn.result ≡ side_bytes c.args.side.now =
+    made _ (λ i. flag_byte c.args.side.now (8 * (31 - i))) 0 _ (λ j y q t. search (rules, tests)) c.from_fn.result 32 c.from_fn.ensures.items in
+    appended c.extend_from_slice.result (vec_items c.args.out.now) (vec_items c.extend_from_slice.new.self) c.from_fn.result _ c.extend_from_slice.ensures.items bytes

@@ -19,17 +19,17 @@ reads-back net p fits (Err x) e = tt
 
 pub write_served-requires : goal.write_served-requires
 write_served-requires c =
-    let net = c.args.net.now in
-    short-rows (value net) (accepted net) _ (subst (λ x. Fits (value net) (plan x)) c.in-Served.is c.requires).0
+    let net = c.args.fitted.now.net.now in
+    short-rows (value net) (accepted net) _ (subst (λ x. Fits (value net) (plan x)) c.in-Served.is c.args.fitted.now.fits).0
 
 pub returns-in-Served : goal.returns-in-Served
 returns-in-Served c =
-    let net = c.args.net.now in
+    let net = c.args.fitted.now.net.now in
     let bytes = subst (λ x. IfOk c.write_served.result (λ v. vec_items v ≡ plan_bytes (plan x))) (sym c.in-Served.is) c.write_served.ensures in
-    record { bytes = bytes; back = reads-back net (plan c.args.plan.now) c.requires c.write_served.result bytes }
+    record { bytes = bytes; back = reads-back net (plan c.args.fitted.now.plan.now) c.args.fitted.now.fits c.write_served.result bytes }
 
 pub returns-in-Unserved : goal.returns-in-Unserved
 returns-in-Unserved c =
-    let net = c.args.net.now in
+    let net = c.args.fitted.now.net.now in
     let bytes = subst (λ x. IfOk c.write_cut.result (λ v. vec_items v ≡ plan_bytes (plan x))) (sym c.in-Unserved.is) c.write_cut.ensures in
-    record { bytes = bytes; back = reads-back net (plan c.args.plan.now) c.requires c.write_cut.result bytes }
+    record { bytes = bytes; back = reads-back net (plan c.args.fitted.now.plan.now) c.args.fitted.now.fits c.write_cut.result bytes }

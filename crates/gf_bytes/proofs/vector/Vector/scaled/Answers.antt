@@ -9,5 +9,5 @@ pub invariant_of-result : goal.invariant_of-result
 invariant_of-result c =
     let f = c.args.factor in record {
       within = omega arith;
-      padded = λ k past h. c.loop-i.invariant.front k (omega arith) ∙ ap (times f) (c.args.self.padded k past h) ∙ additive-zero (times f) (mul-sum 8 0x11b degree-byte f);
+      padded = λ k past h. c.loop-byte.invariant.front k (omega arith) ∙ ap (times f) (c.args.self.padded k past h) ∙ additive-zero (times f) (mul-sum 8 0x11b degree-byte f);
     }

@@ -3,5 +3,5 @@ use Rattle.gf_bytes.specs.Byte.{times}
 use Rattle.gf_bytes.proofs.Done.{Done}
 use Rattle.gf_bytes.proofs.vector.Vector.scaled.Given as goal
 
-abbrev pub invariant-loop-i : goal.invariant-loop-i
-invariant-loop-i l = Done (λ k. times l.factor (get_or l.self.bytes k 0)) l.i l.self.bytes l.bytes
+abbrev pub invariant-loop-byte : goal.invariant-loop-byte
+invariant-loop-byte l = Done (λ k. times l.factor (get_or l.self.bytes k 0)) l.byte-index l.self.bytes l.byte-items

@@ -1,27 +1,15 @@
-use Rattle.std.proofs.Common.{sym, ◌∙◌, inl, inr, arith, below_more}
-use Rattle.std.proofs.lemmas.Bool.{cases_lt, lt-ltb, le-ltb}
-use Rattle.relay_memory.proofs.Steps.{slot-within, tag_read, round-open, round-full, round-empty}
+use Rattle.std.proofs.Common.{◌≡◌, Some, sym, ◌∙◌, rules, tests}
+use Rattle.std.proofs.lemmas.Bool.{le-ltb}
+use Rattle.std.proofs.lemmas.Iterator.{YieldsList-from_slice, cases_from_all}
+use Rattle.relay_memory.proofs.Steps.{side, round-over, round-empty}
 use Rattle.relay_memory.proofs.slots.Slots.is_over.Goals as goal
 
-pub index-requires : goal.index-requires
-index-requires c =
+pub returns-then-links-gt0 : goal.returns-then-links-gt0
+returns-then-links-gt0 c =
     let s = c.args.self.now in
-    let e = c.len-links.ensures in
-    omega (arith, slot-within s _ e s.round c.loop-i.i c.loop-i-test.true, s.tagged, e)
+    let n = c.len-links.result in
+    round-over s n c.len-links.ensures c.if-links-gt0.true _
+    (cases_from_all _ _ _ (λ t. t ≡ Some s.round) (λ t. t ≡ Some s.round → ⊥) c.all.ensures.ran (YieldsList-from_slice (side s n) cc) (λ x q h. search (rules, tests)) (λ x q h. search (rules, tests)))
 
-pub returns-then-index-self : goal.returns-then-index-self
-returns-then-index-self c = sym (round-open c.args.self.now _ c.len-links.ensures c.loop-i.i c.index.result.now c.loop-i-test.true c.index.ensures c.if-index-self.true)
-
-pub loop-i-preserved : goal.loop-i-preserved
-loop-i-preserved c =
-    below_more _ _ c.loop-i.invariant
-    (sym (tag_read c.args.self.now _ c.len-links.ensures c.args.self.now.round c.loop-i.i c.index.result.now c.loop-i-test.true c.index.ensures) ∙ c.if-index-self.false)
-
-pub returns : goal.returns
-returns c =
-    let s = c.args.self.now in
-    let e = c.len-links.ensures in
-    elim (cases_lt 0 c.len-links.result) [
-      | inl l ↦ lt-ltb 0 c.len-links.result l ∙ sym (round-full s _ e l (λ i h. c.loop-i.invariant i (omega arith)))
-      | inr l ↦ le-ltb 0 c.len-links.result l ∙ sym (round-empty s _ e l)
-    ]
+pub returns-else-links-gt0 : goal.returns-else-links-gt0
+returns-else-links-gt0 c = le-ltb 0 c.len-links.result c.if-links-gt0.false ∙ sym (round-empty c.args.self.now _ c.len-links.ensures c.if-links-gt0.false)

@@ -1,52 +1,43 @@
-use Rattle.std.proofs.Common.{◌+◌, sym, refl, ap, ◌∙◌, arith}
+use Rattle.std.proofs.Common.{Some, sym, refl, ap, ◌∙◌, arith}
 use Rattle.relay_theory.specs.Relay.{is_in}
-use Rattle.relay_memory.proofs.Steps.{slot-within, tag_is, tag-not}
+use Rattle.relay_memory.proofs.Memory.{held-is}
+use Rattle.relay_memory.proofs.Steps.{tag_is, tag-not}
 use Rattle.relay_memory.proofs.Answered.{at-link, foreign, over, early, twice, taken}
 use Rattle.relay_memory.proofs.slots.Slots.take.Goals as goal
 
-pub returns-in_default : goal.returns-in_default
-returns-in_default c = record { answer = (foreign c.args.self c.args.link c.args.round _ (ap (is_in c.args.link) (sym c.deref.ensures.value) ∙ c.in_default.ensures), refl); same = (refl, refl) }
+pub returns-in_default-clause-answer : goal.returns-in_default-clause-answer
+returns-in_default-clause-answer c = (foreign c.args.self.now c.args.link c.args.round _ (ap (is_in c.args.link) (sym c.deref.ensures.value) ∙ c.in_default.ensures), refl)
 
-pub returns-then-number-self : goal.returns-then-number-self
-returns-then-number-self c =
-    let at = at-link c.args.self _ c.deref.ensures.value c.args.link c.in-Some.i c.in-Some.ensures in
-    record { answer = (over c.args.self c.args.link c.args.round _ c.in-Some.i at.0 at.1 (omega arith), refl); same = (refl, refl) }
+pub returns-then-number-self-clause-answer : goal.returns-then-number-self-clause-answer
+returns-then-number-self-clause-answer c =
+    let s = c.args.self.now in
+    let at = at-link s _ c.deref.ensures.value c.args.link c.in-Some.i c.in-Some.ensures in (over s c.args.link c.args.round _ c.in-Some.i at.0 at.1 (omega arith), refl)
 
-pub returns-then-number-self-2 : goal.returns-then-number-self-2
-returns-then-number-self-2 c =
-    let at = at-link c.args.self _ c.deref.ensures.value c.args.link c.in-Some.i c.in-Some.ensures in
-    record { answer = (early c.args.self c.args.link c.args.round _ c.in-Some.i at.0 at.1 (omega arith), refl); same = (refl, refl) }
+pub returns-then-number-self-2-clause-answer : goal.returns-then-number-self-2-clause-answer
+returns-then-number-self-2-clause-answer c =
+    let s = c.args.self.now in
+    let at = at-link s _ c.deref.ensures.value c.args.link c.in-Some.i c.in-Some.ensures in (early s c.args.link c.args.round _ c.in-Some.i at.0 at.1 (omega arith), refl)
 
-pub index-requires : goal.index-requires
-index-requires c =
-    let s = c.args.self in
-    let at = at-link c.args.self _ c.deref.ensures.value c.args.link c.in-Some.i c.in-Some.ensures in
-    omega (arith, slot-within s _ c.len.ensures c.args.round c.in-Some.i (omega (arith, at.0, c.len.ensures)), s.tagged, c.len.ensures)
-
-pub returns-then-index-number : goal.returns-then-index-number
-returns-then-index-number c =
-    let s = c.args.self in
-    let at = at-link c.args.self _ c.deref.ensures.value c.args.link c.in-Some.i c.in-Some.ensures in
-    let tag = tag_is s _ c.len.ensures c.args.round c.in-Some.i _ at.0 c.index.ensures in
-    record { answer = (twice s c.args.link c.args.round _ c.in-Some.i at.0 at.1 (omega arith) (tag ∙ c.if-index-number.true ∙ ap (λ r. r + 1) c.from-number.ensures), refl); same = (refl, refl) }
+pub returns-then-eq-clause-answer : goal.returns-then-eq-clause-answer
+returns-then-eq-clause-answer c =
+    let s = c.args.self.now in
+    let at = at-link s _ c.deref.ensures.value c.args.link c.in-Some.i c.in-Some.ensures in (twice s c.args.link c.args.round _ c.in-Some.i at.0 at.1 (omega arith) (tag_is s _ c.len.ensures c.args.round c.in-Some.i _ at.0 c.index.ensures ∙ held-is _ _ (sym c.eq.ensures ∙ c.if-eq.true) ∙ ap Some c.from-number.ensures), refl)
 
 pub keep-requires : goal.keep-requires
 keep-requires c =
-    let at = at-link c.args.self _ c.deref.ensures.value c.args.link c.in-Some.i c.in-Some.ensures in
-    record { link = at.0; window = (omega arith, omega arith); free = tag-not c.args.self _ c.len.ensures c.args.round _ c.in-Some.i _ c.from-number.ensures at.0 c.index.ensures c.if-index-number.false; long = c.requires }
+    let s = c.args.self.now in
+    let at = at-link s _ c.deref.ensures.value c.args.link c.in-Some.i c.in-Some.ensures in
+    record { link = at.0; window = (omega arith, omega arith); free = tag-not s _ c.len.ensures c.args.round _ c.in-Some.i _ c.from-number.ensures at.0 c.index.ensures (sym c.eq.ensures ∙ c.if-eq.false); long = c.requires }
 
-pub returns : goal.returns
-returns c =
-    let at = at-link c.args.self _ c.deref.ensures.value c.args.link c.in-Some.i c.in-Some.ensures in
+pub returns-clause-answer : goal.returns-clause-answer
+returns-clause-answer c =
+    let s = c.args.self.now in
+    let at = at-link s _ c.deref.ensures.value c.args.link c.in-Some.i c.in-Some.ensures in
     let k = c.keep.ensures in
-    let e = c.end_rounds-slots.ensures in
-    record {
-      answer = (
-        e.count.0,
-        omega (arith, e.count.1, k.same.2),
-        taken c.args.self c.args.link c.args.round _ c.in-Some.i at.0 at.1 (omega arith) (omega arith)
-            (tag-not c.args.self _ c.len.ensures c.args.round _ c.in-Some.i _ c.from-number.ensures at.0 c.index.ensures c.if-index-number.false)
-            c.keep.result c.end_rounds-slots.result.0 c.end_rounds-slots.result.1 k.state k.same.0 k.same.2 e.ends,
-      );
-      same = (e.same.0 ∙ k.same.0, e.same.1 ∙ k.same.1);
-    }
+    let e = c.end_rounds.ensures in (
+      e.count.0,
+      omega (arith, e.count.1, k.same.2),
+      taken s c.args.link c.args.round _ c.in-Some.i at.0 at.1 (omega arith) (omega arith)
+          (tag-not s _ c.len.ensures c.args.round _ c.in-Some.i _ c.from-number.ensures at.0 c.index.ensures (sym c.eq.ensures ∙ c.if-eq.false))
+          c.keep.new.self c.end_rounds.new.self _ k.state k.same.0 k.same.2 e.ends,
+    )

@@ -1,33 +1,30 @@
-use Rattle.std.proofs.Common.{◌≡◌, ℕ, ap, ◌∙◌, ap₂, add-one, arith}
+use Rattle.std.proofs.Common.{◌≡◌, ℕ, [], length, get_or, vec_items, ap, ◌∙◌, ap₂, add-one, arith}
 use lib.Bits.{bit_xor}
 use lib.ListN.{get_or-replicate, length-replicate}
 use Rattle.gf.specs.Sum.{sum}
-use Rattle.relay_node.proofs.Mixes.{row_within, slot-within, multiple, multiple-is, read_is}
+use Rattle.gf_bytes.specs.Packet.{multiple_at}
+use Rattle.relay_node.specs.Values.{reading}
+use Rattle.relay_node.proofs.Mixes.{chosen, multiple-is, read_is}
 use Rattle.relay_node.proofs.node.Node.read.Goals as goal
 
 pub loop-i-init : goal.loop-i-init
 loop-i-init c = (λ k h. get_or-replicate 1024 k 0 0 h, length-replicate {A = ℕ} 1024 0)
 
-pub overflow_add-j : goal.overflow_add-j
-overflow_add-j c = omega (arith, row_within c.args.self.now _ c.len.ensures _ c.len-count.ensures c.args.j c.loop-i.i c.requires c.loop-i-test.true, c.args.self.now.rows.small)
-
-pub index-requires-in-loop-i : goal.index-requires-in-loop-i
-index-requires-in-loop-i c = row_within c.args.self.now _ c.len.ensures _ c.len-count.ensures c.args.j c.loop-i.i c.requires c.loop-i-test.true
-
-pub index-requires-in-loop-i-2 : goal.index-requires-in-loop-i-2
-index-requires-in-loop-i-2 c = slot-within c.args.self.now _ c.len.ensures _ c.len-count.ensures c.args.round c.loop-i.i c.index.result.now c.loop-i-test.true c.index.ensures
-
 pub loop-i-preserved : goal.loop-i-preserved
 loop-i-preserved c = (
   λ k h.
-      let m = multiple-is c.args.self.now _ c.len.ensures _ c.len-count.ensures c.args.round c.args.j c.loop-i.i c.index.result.now
-      c.index-in-loop-i.result.now c.index-in-loop-i-2.result.now k c.requires c.loop-i-test.true c.index.ensures c.index-in-loop-i.ensures c.index-in-loop-i-2.ensures in
-      rw add-one (c.add_multiple.ensures k h ∙ ap₂ bit_xor (c.loop-i.invariant.0 k h) m),
+      let d = c.args.self.now in
+      let i = c.loop-i.i in
+      rw add-one (c.add_multiple.ensures k h ∙ ap₂ bit_xor (c.loop-i.invariant.0 k h)
+      (multiple-is d c.args.j c.requires c.index-row.result.now c.index-row.ensures c.came-came.result.now i _ _ k
+      (omega (arith, c.deref-at-items.ensures.len, d.current.ok.0)) (ap (λ l. get_or l i 0) c.deref-at-items.ensures.value) (cc))),
   c.add_multiple.array_long,
 )
 
 pub returns : goal.returns
 returns c =
-    let all : c.loop-i.i ≡ c.len-count.result = omega arith in
-    read_is c.args.self.now _ c.len.ensures _ c.len-count.ensures c.args.round c.args.j c.requires c.loop-i.sum c.loop-i.invariant.1
-    (λ k h. c.loop-i.invariant.0 k h ∙ ap (λ y. sum y (multiple c.args.self.now _ c.len.ensures _ c.len-count.ensures c.args.round c.args.j k)) all)
+    let d = c.args.self.now in
+    let all : c.loop-i.i ≡ length (vec_items d.current) = omega (arith, c.deref-at-items.ensures.len, d.current.ok.0) in
+    read_is d c.args.j c.requires c.index-row.result.now c.index-row.ensures c.came-came.result.now c.loop-i.sum c.loop-i.invariant.1
+    (λ k h. c.loop-i.invariant.0 k h ∙ ap (λ y. sum y (multiple_at (vec_items c.index-row.result.now) (chosen (vec_items d.current) c.came-came.result.now) k)) all)
+    ∙ ap (λ ps. get_or (reading d ps) c.args.j []) c.came-came.ensures.packets

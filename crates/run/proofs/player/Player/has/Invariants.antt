@@ -7,4 +7,4 @@ use Rattle.run.proofs.player.Player.has.Given as goal
 
 -- what has been read so far is the same
 abbrev pub invariant-loop-j : goal.invariant-loop-j
-invariant-loop-j l = (k : ℕ) → k < l.j → get_or (reading l.node (flat_map (λ b. b) (over_in l.node.slots (l.self.round - 1)).came)) k [] ≡ part 1024 k l.bytes
+invariant-loop-j l = (k : ℕ) → k < l.j → get_or (reading l.node (flat_map (λ b. b) (over_in l.node.slots (l.self.round - 1)).came)) k [] ≡ part 1024 k l.fn.bytes

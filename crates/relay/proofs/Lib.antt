@@ -1,5 +1,0 @@
-pub mod Memory
-pub mod Steps
-pub mod Ends
-pub mod Answered
-pub mod Mixes

@@ -1,4 +1,0 @@
-pub mod Refusals
-pub mod Memory
-pub mod Mixing
-pub mod Values
