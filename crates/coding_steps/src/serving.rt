@@ -1,5 +1,5 @@
 // The choice of the coefficients of a link, when some of the receivers have had their turn.
-ghost use Rattle.std.specs.Prelude.{◌≡◌, ◌<◌, ◌≤◌, ◌∷◌, ◌++◌, [], map, length, replicate, IfOk, OnOk};
+ghost use Rattle.std.specs.Prelude.{◌≡◌, ◌<◌, ◌≤◌, ◌∷◌, ◌++◌, [], map, length, replicate, IfOk, OnErr, OnOk};
 ghost use Rattle.gf.proofs.Fields.{byte_field};
 ghost use Rattle.linear.specs.Vectors.{plus, scale, dot};
 ghost use Rattle.linear.specs.Lowest.{lowest};
@@ -47,7 +47,7 @@ impl Choice {
     }
 
     // Serves one more receiver, and still those before it. Nothing changes if the vector serves it already; else t times
-    // the vector `added` of a packet at hand is added, with the lowest t that serves all.
+    // the vector `added` of a packet at hand is added, with the lowest t that serves all. Where memory is wanting, all stays as it was.
     pub fn serve(
         &mut self,
         heap: Global,
@@ -60,6 +60,8 @@ impl Choice {
             → lowest (all_served (map (product_of self.old.vector.count self.old.vector.bytes added.bytes) (bytes_of (self.old.rows.items ++ row ∷ [])))) 255 1 < 256 }
         ensures hands { self.new.hands ≡ self.old.hands }
         ensures rows { OnOk result (self.new.rows.items ≡ self.old.rows.items ++ row ∷ []) }
+        ensures left { OnErr result ((self.new.rows.items ≡ self.old.rows.items)
+            × (self.new.coefficients ≡ self.old.coefficients) × (self.new.vector ≡ self.old.vector)) }
         ensures served { OnOk result
             (Extended (bytes_of (self.old.rows.items ++ row ∷ [])) row.bytes added.bytes (trial (carrier packet) (map carrier self.old.hands.items))
             self.old.coefficients.items self.old.vector self.new.coefficients.items self.new.vector) }
@@ -68,7 +70,13 @@ impl Choice {
         if row.dot(self.vector) != 0 {
             return Ok(());
         }
-        let products = products(heap, &self.rows, self.vector, added)?;
+        let products = match products(heap, &self.rows, self.vector, added) {
+            Ok(products) => products,
+            Err(wanting) => {
+                let _row = self.rows.pop();
+                return Err(wanting);
+            }
+        };
         let t = lowest_serving(&products);
         add_at(&mut self.coefficients, &self.hands, packet, t);
         self.vector = self.vector.plus(added.scaled(t));

@@ -19,7 +19,7 @@ returns-clause-served c =
     let e : c.dot.result ≡ dot byte_field v.count c.args.row.bytes v.bytes = c.dot.ensures ∙ product_is v.count c.args.row v c.requires.counted.0 refl in
     let t : c.lowest_serving-t.result ≡ lowest (all_served (map (product_of v.count v.bytes u.bytes) (bytes_of (s.rows.items ++ c.args.row ∷ [])))) 255 1 =
     c.lowest_serving-t.ensures
-    ∙ ap (λ ps. lowest (all_served ps) 255 1) (c.deref-2.ensures.value ∙ c.in_ok-products.ensures ∙ ap (λ q. map (product_of v.count v.bytes u.bytes) (bytes_of q)) (c.deref.ensures.value ∙ c.in_ok-push.ensures.items)) in
+    ∙ ap (λ ps. lowest (all_served ps) 255 1) (c.deref-2.ensures.value ∙ c.in-Ok.ensures ∙ ap (λ q. map (product_of v.count v.bytes u.bytes) (bytes_of q)) (c.deref.ensures.value ∙ c.in_ok-push.ensures.items)) in
     let cs = c.add_at.new.coefficients in
     record {
       served = λ ne. absurd (ne (sym e ∙ c.if-dot-ne0.false));
