@@ -1,11 +1,13 @@
 // The search for a path, breadth first.
-ghost use Rattle.std.specs.Prelude.{◌≡◌, ℕ, ◌<◌, false, length, replicate, vec_items, vec_len, IfOk, OnOk, slice_index, slice_index_or};
-ghost use Rattle.flow_theory.specs.Flow.{is_used, flagged, go_on, onward, over, start};
+ghost use Rattle.std.specs.Prelude.{◌≡◌, ℕ, ◌<◌, false, length, replicate, vec_items, vec_len, IfOk, OnOk, if◌then◌else◌, slice_index, slice_index_or};
+ghost use Rattle.flow_theory.specs.Flow.{flagged, go_on, onward, over, start};
+ghost use Rattle.network.specs.Links.{begin_of, end_of};
 ghost use Rattle.network.specs.Values.{graph};
 ghost use Rattle.flow_search.specs.Queue.{ways_of, Queued, Bounded, Sought};
 
 use crate::adjacency::Adjacency;
 use crate::reached::Reached;
+use network::Link;
 use std::alloc::{AllocError, Global};
 
 // The search over the links of a network, some of which are used.
@@ -23,6 +25,15 @@ pub struct Search<'a> {
     ghost queued: { Queued (vec_len used) order.items marks },
 }
 
+// Where a step over link k leads: back to its beginning, which only a used link allows, or on to its end.
+fn lead(links: &[Link], k: usize, back: bool) -> u16
+    requires { k < length links.now }
+    ensures { result ≡ (if back then begin_of links.now k else end_of links.now k) }
+{
+    let link = links[k];
+    if back { link.from } else { link.to }
+}
+
 impl<'a> Search<'a> {
     // Nothing is used, and nothing reached.
     pub fn new(heap: Global, adjacency: &'a Adjacency<'a>) -> Result<Search<'a>, AllocError>
@@ -38,16 +49,6 @@ impl<'a> Search<'a> {
         })
     }
 
-    // Where a step over link k leads: back to its beginning, which only a used link allows, or on to its end.
-    fn lead(&self, k: usize, back: bool) -> u16
-        requires { k < vec_len self.now.used }
-        ensures marked { result < 256 }
-        ensures over { is_used self.now.used.items k ≡ back → result ≡ over (graph self.now.adjacency.now.network.now).links self.now.used.items k }
-    {
-        let link = self.adjacency.network.links[k];
-        if back { link.from } else { link.to }
-    }
-
     // From the node at a place over those links of a list whose flag is `back`, as used ones are gone over back: it is compared with flags, so
     // it is one.
     fn go_over(&mut self, row: &[u16], back: bool, place: u16) -> Result<(), AllocError>
@@ -56,9 +57,11 @@ impl<'a> Search<'a> {
         ensures ways { OnOk result (ways_of self.new.order.items ≡ go_on (over (graph self.old.adjacency.now.network.now).links self.old.used.items) (slice_index_or (ways_of self.old.order.items) place start) (flagged self.old.used.items back row.now) (ways_of self.old.order.items)) }
         ensures same { (self.new.adjacency ≡ self.old.adjacency) × (self.new.used ≡ self.old.used) }
     {
+        // taken out of the network once, and not for each link
+        let links = self.adjacency.network.links.as_slice();
         for link in row {
             let k = *link as usize;
-            let node = self.lead(k, back);
+            let node = lead(links, k, back);
             if self.used[k] == back && !self.marks[node as usize] {
                 self.order.push(Reached {
                     node,
