@@ -42,4 +42,6 @@ returns c =
     let ps = c.args.paths.now in
     let at : c.position.result ≡ cond (ltb (position_or_len (λ p. has e (vec_items p)) ps) (length ps)) (Some (position_or_len (λ p. has e (vec_items p)) ps)) None =
     position_from_yields_List (λ p. has e (vec_items p)) _ _ c.position.result c.position.ensures.ran (YieldsList-from_slice ps (cc)) (λ x b q k. search (rules, tests)) in
-    rw (at, place-first e ps) (decided (length ps) (position_or_len (λ p. has e (vec_items p)) ps))
+    let found : MatchOption c.position.result (length ps ≤ place e (map vec_items ps)) (λ j. (j < length ps) × (j ≡ place e (map vec_items ps))) =
+    rw (at, place-first e ps) (decided (length ps) (position_or_len (λ p. has e (vec_items p)) ps)) in
+    search (rules, found)
