@@ -82,7 +82,7 @@ fn goes(heap: Global, coefficients: &[Vec<u8>], links: &[u16]) -> Result<Vec<Out
     ensures links { IfOk result (λ v. map (λ o. o.link) v.items ≡ links.now) }
     ensures coefficients { IfOk result (λ v. map (λ o. vec_items o.coefficients) v.items ≡ picked (map vec_items coefficients.now) links.now) }
 {
-    let mut outs = Vec::new(heap);
+    let mut outs = Vec::with_capacity(heap, links.len())?;
     for link in links {
         let coefficients = coefficients[*link as usize].clone()?;
         outs.push(Out {
